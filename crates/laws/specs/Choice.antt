@@ -1,0 +1,49 @@
+-- A branch. `pick` is an if-then-else that stays shut, so that antt finds its test and its arms in a goal by itself.
+-- Assumes nothing.
+--     pick b x y          x where the test b holds, else y
+--     pick-yes, pick-no   which arm it is, by the test: `pick-yes _ _ _ (cc) (cc)`; pick-not-yes, pick-not-no of a test `!b`
+--     pick-if             what both arms have, the pick has, and the test is known in each
+--     choices             what a tree of early returns wants: `search (needs, choices)`
+use mathlib.Core.Path.{_≡_, refl, sym, ap, _∙_}
+use mathlib.Core.Bool.{Bool, true, false, not}
+use borrow.Author.Tests.{lt-ltb, le-ltb, le-leb, lt-leb, eq-eqb, ne-eqb}
+
+not-not : (b : Bool) → not (not b) ≡ b
+not-not true = refl
+not-not false = refl
+
+unfoldable pub pick : {A : Type 0} → Bool → A → A → A
+pick true x y = x
+pick false x y = y
+
+module _ {A : Type 0} (b : Bool) (x y : A) {z : A} where
+  pub pick-yes : b ≡ true → z ≡ x → z ≡ pick b x y
+  unfolding pick
+  pick-yes e h = rw e h
+
+  pub pick-no : b ≡ false → z ≡ y → z ≡ pick b x y
+  unfolding pick
+  pick-no e h = rw e h
+
+  -- of a test `!b`
+  pub pick-not-yes : not b ≡ true → z ≡ y → z ≡ pick b x y
+  pick-not-yes e h = pick-no (sym (not-not b) ∙ ap not e) h
+
+  pub pick-not-no : not b ≡ false → z ≡ x → z ≡ pick b x y
+  pick-not-no e h = pick-yes (sym (not-not b) ∙ ap not e) h
+
+pub pick-if : {A : Type 0} (Q : A → Type 0) (b : Bool) {x y : A} → (b ≡ true → Q x) → (b ≡ false → Q y) → Q (pick b x y)
+unfolding pick
+pick-if Q true h k = h refl
+pick-if Q false h k = k refl
+
+pub ruleset choices = (
+  pick-yes,
+  pick-no,
+  lt-ltb,
+  le-ltb,
+  le-leb,
+  lt-leb,
+  eq-eqb,
+  ne-eqb,
+)

@@ -1,0 +1,159 @@
+-- What a loop of Loops says in the words of lists: for theorems about a definition, and for a contract that is to be read without loops.
+--     iter-fold                            a sum over indices is a fold over the list
+--     iter-cong, over-cong                 two bodies that agree at each index below n give the same
+--     over-over                            two passes are one
+--     over-fill, over-copy, over-map, over-mapped     all of a list: a constant, another list, f of each, f of each of another
+--     over-table, over2-table              all of a list, by place; what it held before is not mentioned
+--     over-front, over-filled, over-copied            the first n places, and the rest as it was
+--     overAt-back, overAt-copied, overAt-padded       from place b on, and what lies before as it was
+--     slide                                a window's second half moved to the front and a block put behind it
+-- Assumes nothing.
+use mathlib.Core.Path.{_≡_, refl, sym, ap, _∙_}
+use mathlib.Core.List.{List, [], _∷_, _++_, foldl, map}
+use Prim.Native.Nat.{ℕ, zero, suc, _+_, _-_, _*_, _≤_, _<_}
+use native.Mathlib.Nat.{not-suc-le-zero, le-of-suc-le-suc, le-refl, add-sub-cancel, suc-inj}
+use native.Mathlib.Omega.{arith}
+use lib.ListN.{length, getD, take, drop, replicate, length-drop}
+use lib.Seq.{getD-drop, drop-drop}
+use Rattle.laws.specs.Loops.{iter, over, overAt, over2}
+use Rattle.laws.specs.Tables.{table, table2}
+
+-- one turn taken off the front
+iter-front : {B : Type 0} (step : ℕ → B → B) (b : B) (n : ℕ) → iter step b (suc n) ≡ iter (λ k. step (suc k)) (step 0 b) n
+unfolding iter
+iter-front step b zero = refl
+iter-front step b (suc n) = ap (step (suc n)) (iter-front step b n)
+
+pub iter-fold : {A B : Type 0} (z : A) (f : B → A → B) (b : B) (s : List A) → iter (λ k a. f a (getD s k z)) b (length s) ≡ foldl f b s
+unfolding iter
+iter-fold z f b [] = refl
+iter-fold z f b (x ∷ s) = iter-front (λ k a. f a (getD (x ∷ s) k z)) b (length s) ∙ iter-fold z f (f b x) s
+
+module _ {A : Type 0} where
+  pub iter-cong : (f g : ℕ → A → A) (a : A) (n : ℕ) → ((k : ℕ) (x : A) → k < n → f k x ≡ g k x) → iter f a n ≡ iter g a n
+  unfolding iter
+  iter-cong f g a zero h = refl
+  iter-cong f g a (suc n) h = h n (iter f a n) (le-refl (suc n)) ∙ ap (g n) (iter-cong f g a n (λ k x l. h k x (omega arith)))
+
+  pub over-cong : (f g : ℕ → A → A) (d : List A) (n : ℕ) → ((k : ℕ) (x : A) → k < n → f k x ≡ g k x) → over n f d ≡ over n g d
+  unfolding over
+  over-cong f g d zero h = refl
+  over-cong f g [] (suc n) h = refl
+  over-cong f g (x ∷ d) (suc n) h =
+      ap (λ (y : A). y ∷ over n (λ k. f (suc k)) d) (h 0 x (omega arith))
+      ∙ ap (λ (l : List A). g 0 x ∷ l) (over-cong (λ k. f (suc k)) (λ k. g (suc k)) d n (λ k y l. h (suc k) y (omega arith)))
+
+  pub over-over : (f g : ℕ → A → A) (d : List A) (n : ℕ) → over n g (over n f d) ≡ over n (λ k x. g k (f k x)) d
+  unfolding over
+  over-over f g d zero = refl
+  over-over f g [] (suc n) = refl
+  over-over f g (x ∷ d) (suc n) = ap (λ (l : List A). g 0 (f 0 x) ∷ l) (over-over (λ k. f (suc k)) (λ k. g (suc k)) d n)
+
+  pub over-fill : (v : A) (d : List A) → over (length d) (λ k x. v) d ≡ replicate (length d) v
+  unfolding over
+  over-fill v [] = refl
+  over-fill v (x ∷ d) = ap (λ (l : List A). v ∷ l) (over-fill v d)
+
+  pub over-copy : (z : A) (s d : List A) → length s ≡ length d → over (length d) (λ k x. getD s k z) d ≡ s
+  unfolding over
+  over-copy z [] [] e = refl
+  over-copy z [] (x ∷ d) e = absurd (omega arith)
+  over-copy z (y ∷ s) [] e = absurd (omega arith)
+  over-copy z (y ∷ s) (x ∷ d) e = ap (λ (l : List A). y ∷ l) (over-copy z s d (omega arith))
+
+  -- ---- the first n places, and the rest as it was
+  pub over-front : (n : ℕ) (f : ℕ → A → A) (d : List A) → over n f d ≡ over n f (take n d) ++ drop n d
+  unfolding over
+  over-front zero f d = refl
+  over-front (suc n) f [] = refl
+  over-front (suc n) f (x ∷ d) = ap (λ (l : List A). f 0 x ∷ l) (over-front n (λ k. f (suc k)) d)
+
+  pub over-filled : (v : A) (n : ℕ) (d : List A) → n ≤ length d → over n (λ k x. v) d ≡ replicate n v ++ drop n d
+  unfolding over
+  over-filled v zero d h = refl
+  over-filled v (suc n) [] h = absurd (not-suc-le-zero h)
+  over-filled v (suc n) (x ∷ d) h = ap (λ (l : List A). v ∷ l) (over-filled v n d (le-of-suc-le-suc h))
+
+  pub over-copied : (z : A) (n : ℕ) (s d : List A) → n ≤ length s → n ≤ length d → over n (λ k x. getD s k z) d ≡ take n s ++ drop n d
+  unfolding over
+  over-copied z zero s d h l = refl
+  over-copied z (suc n) [] d h l = absurd (not-suc-le-zero h)
+  over-copied z (suc n) (y ∷ s) [] h l = absurd (not-suc-le-zero l)
+  over-copied z (suc n) (y ∷ s) (x ∷ d) h l = ap (λ (r : List A). y ∷ r) (over-copied z n s d (le-of-suc-le-suc h) (le-of-suc-le-suc l))
+
+  -- ---- from place b on: what lies before stays
+  pub overAt-back : (b n : ℕ) (f : ℕ → A → A) (d : List A) → overAt b n f d ≡ take b d ++ over n f (drop b d)
+  unfolding over overAt
+  overAt-back zero n f d = refl
+  overAt-back (suc b) zero f [] = refl
+  overAt-back (suc b) (suc n) f [] = refl
+  overAt-back (suc b) n f (x ∷ d) = ap (λ (l : List A). x ∷ l) (overAt-back b n f d)
+
+  pub overAt-copied : (z : A) (b n : ℕ) (s d : List A) → n ≤ length s → b + n ≤ length d
+      → overAt b n (λ k x. getD s k z) d ≡ take b d ++ (take n s ++ drop (b + n) d)
+  overAt-copied z b n s d h l =
+      overAt-back b n (λ k x. getD s k z) d
+      ∙ ap (λ (r : List A). take b d ++ r) (over-copied z n s (drop b d) h (room (length-drop b d)) ∙ ap (λ (r : List A). take n s ++ r) (drop-drop n b d))
+    where
+      room : length (drop b d) ≡ length d - b → n ≤ length (drop b d)
+      room e = omega arith
+
+  -- a list of b + n places padded from b on
+  pub overAt-padded : (v : A) (b n : ℕ) (d : List A) → length d ≡ b + n → overAt b n (λ k x. v) d ≡ take b d ++ replicate n v
+  overAt-padded v b n d e =
+      let m : length (drop b d) ≡ n = room (length-drop b d) in
+      overAt-back b n (λ k x. v) d ∙ ap (λ (r : List A). take b d ++ r) (rw m at (over-fill v (drop b d)))
+    where
+      room : length (drop b d) ≡ length d - b → length (drop b d) ≡ n
+      room q = omega arith
+
+  -- ---- a loop that overwrites all of d: its result does not mention what d held
+  pub over-table : (n : ℕ) (f : ℕ → A) (d : List A) → length d ≡ n → over n (λ k x. f k) d ≡ table n f
+  unfolding over table
+  over-table zero f [] e = refl
+  over-table zero f (x ∷ d) e = absurd (omega arith)
+  over-table (suc n) f [] e = absurd (omega arith)
+  over-table (suc n) f (x ∷ d) e = ap (λ (l : List A). f 0 ∷ l) (over-table n (λ k. f (suc k)) d (suc-inj e))
+
+  pub over2-table : (z : A) (n : ℕ) (f g : ℕ → A) (d : List A) → length d ≡ 2 * n → over2 z n (λ k x y. f k) (λ k x y. g k) d ≡ table2 n f g
+  unfolding over2 table2
+  over2-table z zero f g [] e = refl
+  over2-table z zero f g (x ∷ d) e = absurd (omega arith)
+  over2-table z (suc n) f g [] e = absurd (omega arith)
+  over2-table z (suc n) f g (x ∷ []) e = absurd (omega arith)
+  over2-table z (suc n) f g (x ∷ y ∷ d) e = ap (λ (l : List A). f 0 ∷ g 0 ∷ l) (over2-table z n (λ k. f (suc k)) (λ k. g (suc k)) d (omega arith))
+
+  pub over-map : (f : A → A) (d : List A) → over (length d) (λ k x. f x) d ≡ map f d
+  unfolding over
+  over-map f [] = refl
+  over-map f (x ∷ d) = ap (λ (l : List A). f x ∷ l) (over-map f d)
+
+  -- the first h places take what lies h on, and the places behind them the block
+  front : (z : A) (w v : List A) → length v ≤ length w → over (length v) (λ k x. getD v k z) w ≡ v ++ drop (length v) w
+  unfolding over
+  front z w [] h = refl
+  front z [] (y ∷ v) h = absurd (not-suc-le-zero h)
+  front z (x ∷ w) (y ∷ v) h = ap (λ (l : List A). y ∷ l) (front z w v (le-of-suc-le-suc h))
+
+  back : (z : A) (a t b : List A) → length b ≡ length t → overAt (length a) (length b) (λ k x. getD b k z) (a ++ t) ≡ a ++ b
+  unfolding overAt
+  back z [] t b e = rw e (over-copy z b t e)
+  back z (x ∷ a) t b e = ap (λ (l : List A). x ∷ l) (back z a t b e)
+
+  pub slide : (z : A) (h : ℕ) (w b : List A) → length w ≡ h + h → length b ≡ h
+      → overAt h h (λ k x. getD b k z) (over h (λ k x. getD w (h + k) z) w) ≡ drop h w ++ b
+  slide z h w b e f =
+      let v = drop h w in
+      let n : length v ≡ h = length-drop h w ∙ rw e (add-sub-cancel h h) in
+      let one : over h (λ k x. getD w (h + k) z) w ≡ v ++ drop h w =
+      over-cong (λ k x. getD w (h + k) z) (λ k x. getD v k z) w h (λ k x l. sym (getD-drop h w k z))
+      ∙ (rw n at (front z w v (omega arith))) in
+      ap (λ (l : List A). overAt h h (λ k x. getD b k z) l) one ∙ (rw (n, f) at (back z v v b (f ∙ sym n)))
+
+-- each place takes f of what stands there in another list, of any type
+pub over-mapped : {A B : Type 0} (z : B) (f : B → A) (s : List B) (d : List A) → length s ≡ length d → over (length d) (λ k x. f (getD s k z)) d ≡ map f s
+unfolding over
+over-mapped z f [] [] e = refl
+over-mapped z f [] (x ∷ d) e = absurd (omega arith)
+over-mapped z f (y ∷ s) [] e = absurd (omega arith)
+over-mapped {A} z f (y ∷ s) (x ∷ d) e = ap (λ (l : List A). f y ∷ l) (over-mapped z f s d (omega arith))

@@ -1,0 +1,110 @@
+-- A constant table and its rule: one test that antt computes over the whole table, and the law that turns it into the rule at
+-- each entry. Assumes nothing.
+--     table n f            f 0, f 1, .. up to n entries; table2 n f g the same by pairs, f 0, g 0, f 1, g 1, ..
+--     table-at             what a table holds at k
+--     is-table             a list that passes the test entry by entry IS the table of f
+--     entry-at             a rule of place and entry, at each entry of a list that passes it
+--     at-below             a rule of the numbers below n
+use mathlib.Core.Path.{_≡_, refl, sym, _∙_, ap, subst}
+use mathlib.Core.Bool.{Bool, true, false, _&&_}
+use mathlib.Core.List.{List, [], _∷_}
+use Prim.Native.Nat.{ℕ, zero, suc, _+_, _*_, _<_}
+use native.Mathlib.Nat.{add-zero, zero-add, add-suc, suc-add, le-of-suc-le-suc, not-suc-le-zero}
+use native.Mathlib.Omega.{arith}
+use lib.Dec.{T}
+use lib.ListN.{length, getD}
+
+and-l : (a b : Bool) → T (a && b) → T a
+and-l true b h = tt
+and-l false b h = h
+
+and-r : (a b : Bool) → T (a && b) → T b
+and-r true b h = h
+and-r false b h = absurd h
+
+-- the place i + k, counted on from i
+onward : (i k : ℕ) → suc i + k ≡ i + suc k
+onward i k = suc-add i k ∙ sym (add-suc i k)
+
+module _ {A : Type 0} where
+  unfoldable pub table : ℕ → (ℕ → A) → List A
+  table zero f = []
+  table (suc n) f = f 0 ∷ table n (λ k. f (suc k))
+
+  unfoldable pub table2 : ℕ → (ℕ → A) → (ℕ → A) → List A
+  table2 zero f g = []
+  table2 (suc n) f g = f 0 ∷ g 0 ∷ table2 n (λ k. f (suc k)) (λ k. g (suc k))
+
+  pub length-table : (n : ℕ) (f : ℕ → A) → length (table n f) ≡ n
+  unfolding table
+  length-table zero f = refl
+  length-table (suc n) f = ap suc (length-table n (λ k. f (suc k)))
+
+  pub length-table2 : (n : ℕ) (f g : ℕ → A) → length (table2 n f g) ≡ 2 * n
+  unfolding table2
+  length-table2 zero f g = refl
+  length-table2 (suc n) f g = ap (λ (k : ℕ). suc (suc k)) (length-table2 n (λ k. f (suc k)) (λ k. g (suc k))) ∙ twice n
+    where
+      twice : (n : ℕ) → suc (suc (2 * n)) ≡ 2 * suc n
+      twice n = omega arith
+
+  pub table-at : (n : ℕ) (f : ℕ → A) (k : ℕ) (d : A) → k < n → getD (table n f) k d ≡ f k
+  unfolding table
+  table-at zero f k d h = absurd (not-suc-le-zero h)
+  table-at (suc n) f zero d h = refl
+  table-at (suc n) f (suc k) d h = table-at n (λ j. f (suc j)) k d (le-of-suc-le-suc h)
+
+  -- two rules that agree below n give the same table
+  pub table-cong : (n : ℕ) (f g : ℕ → A) → ((k : ℕ) → k < n → f k ≡ g k) → table n f ≡ table n g
+  unfolding table
+  table-cong zero f g h = refl
+  table-cong (suc n) f g h =
+      ap (λ (x : A). x ∷ table n (λ k. f (suc k))) (h 0 (omega arith))
+      ∙ ap (λ (l : List A). g 0 ∷ l) (table-cong n (λ k. f (suc k)) (λ k. g (suc k)) (λ k l. h (suc k) (omega arith)))
+
+  module _ (alike : A → A → Bool) (sound : (x y : A) → T (alike x y) → x ≡ y) where
+    -- the entry at each place, counted from i, is what f gives
+    abbrev pub agrees : (ℕ → A) → ℕ → List A → Bool
+    agrees f i [] = true
+    agrees f i (x ∷ xs) = alike x (f i) && agrees f (suc i) xs
+
+    from-table : (f : ℕ → A) (i : ℕ) (xs : List A) → T (agrees f i xs) → xs ≡ table (length xs) (λ k. f (i + k))
+    unfolding table
+    from-table f i [] t = refl
+    from-table f i (x ∷ xs) t =
+        let h : x ≡ f (i + 0) = sound x (f i) (and-l (alike x (f i)) (agrees f (suc i) xs) t) ∙ ap f (sym (add-zero i)) in
+        let r : xs ≡ table (length xs) (λ k. f (i + suc k)) =
+        from-table f (suc i) xs (and-r (alike x (f i)) (agrees f (suc i) xs) t)
+        ∙ table-cong (length xs) (λ k. f (suc i + k)) (λ k. f (i + suc k)) (λ k l. ap f (onward i k)) in
+        cc
+
+    pub is-table : (f : ℕ → A) (xs : List A) → T (agrees f 0 xs) → xs ≡ table (length xs) f
+    is-table f xs t = from-table f 0 xs t ∙ table-cong (length xs) (λ k. f (0 + k)) f (λ k l. ap f (zero-add k))
+
+  -- a test of each place, counted from i, and its entry
+  abbrev pub passesAt : (ℕ → A → Bool) → ℕ → List A → Bool
+  passesAt t i [] = true
+  passesAt t i (x ∷ xs) = t i x && passesAt t (suc i) xs
+
+  from-entry : (t : ℕ → A → Bool) (xs : List A) (i k : ℕ) (d : A) → T (passesAt t i xs) → k < length xs → T (t (i + k) (getD xs k d))
+  from-entry t [] i k d h l = absurd (not-suc-le-zero l)
+  from-entry t (x ∷ xs) i zero d h l = subst (λ (m : ℕ). T (t m x)) (sym (add-zero i)) (and-l (t i x) (passesAt t (suc i) xs) h)
+  from-entry t (x ∷ xs) i (suc k) d h l =
+      subst (λ (m : ℕ). T (t m (getD xs k d))) (onward i k) (from-entry t xs (suc i) k d (and-r (t i x) (passesAt t (suc i) xs) h) (le-of-suc-le-suc l))
+
+  pub entry-at : (t : ℕ → A → Bool) (xs : List A) (k : ℕ) (d : A) → T (passesAt t 0 xs) → k < length xs → T (t k (getD xs k d))
+  entry-at t xs k d h l = subst (λ (m : ℕ). T (t m (getD xs k d))) (zero-add k) (from-entry t xs 0 k d h l)
+
+-- a test of the n numbers from i on
+abbrev pub passesFrom : (ℕ → Bool) → ℕ → ℕ → Bool
+passesFrom t i zero = true
+passesFrom t i (suc n) = t i && passesFrom t (suc i) n
+
+from-below : (t : ℕ → Bool) (i n k : ℕ) → T (passesFrom t i n) → k < n → T (t (i + k))
+from-below t i zero k h l = absurd (not-suc-le-zero l)
+from-below t i (suc n) zero h l = rw add-zero (and-l (t i) (passesFrom t (suc i) n) h)
+from-below t i (suc n) (suc k) h l =
+    subst (λ (m : ℕ). T (t m)) (onward i k) (from-below t (suc i) n k (and-r (t i) (passesFrom t (suc i) n) h) (le-of-suc-le-suc l))
+
+pub at-below : (t : ℕ → Bool) (n k : ℕ) → T (passesFrom t 0 n) → k < n → T (t k)
+at-below t n k h l = subst (λ (m : ℕ). T (t m)) (zero-add k) (from-below t 0 n k h l)

@@ -1,0 +1,1 @@
+// No code: the laws of counting loops and lists, over any element type, stand in specs/.
