@@ -7,14 +7,14 @@
 --     over2 z n f g d     the list d of pairs, its first n changed: the x, y at 2k, 2k + 1 to f k x y, g k x y
 -- Of each: -none at the loop's start, -more at a turn (`rw over-more .. (cc)`), -end after the loop (`search (needs, over-end)`).
 -- Assumes nothing.
-use mathlib.Core.Path.{_≡_, refl, sym, ap, _∙_, subst}
-use mathlib.Core.List.{List, [], _∷_, _++_}
+use mathlib.Core.Path.{_≡_, refl, sym, ap, _∙_}
+use mathlib.Core.List.{List, [], _∷_}
 use Prim.Native.Nat.{ℕ, zero, suc, _+_, _*_, _≤_, _<_}
 use native.Mathlib.Nat.{not-suc-le-zero, le-of-suc-le-suc, le-antisymm, suc-add, zero-add}
 use native.Mathlib.Numerals.{add-one}
 use native.Mathlib.Omega.{arith}
 use lib.Ieee.{Float, nan}
-use lib.ListN.{length, getD, set, take, drop}
+use lib.ListN.{length, getD, set}
 
 double : (n : ℕ) → 2 * suc n ≡ suc (suc (2 * n))
 double n = omega arith

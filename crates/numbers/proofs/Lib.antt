@@ -1,0 +1,9 @@
+pub mod Rounding
+pub mod Tests
+pub mod Values
+pub mod Narrowed
+pub mod Ordered
+pub mod Zeros
+pub mod Ranged
+pub mod Clean
+pub mod Marked

@@ -1,0 +1,141 @@
+-- The order of numbers, and what minimum, maximum and clamp are bounded by. Assumes nothing.
+--     total          of two that are no NaN, where the one is not below the other, the other is at most the one
+--     same-of-le     two positive values of a format that are at most each other are the same
+--     min-left, min-right, max-left, max-right, clamp-low, clamp-high    the bounds
+--     clamp-nan      a clamped NaN stays
+use mathlib.Core.Path.{_≡_, refl, sym, _∙_, subst}
+use mathlib.Core.Logic.{_⊎_, inl, inr}
+use Prim.Native.Nat.{ℕ, _+_, _-_, _*_, _≤_, _<_}
+use native.Mathlib.Nat.{le-antisymm, eq-or-lt-of-le}
+use native.Mathlib.Omega.{arith}
+use mathlib.Core.Bool.{Bool, true, false, not, _&&_, _||_, true≢false}
+use lib.Dec.{T, ltb, eqb, lt→ltb}
+use borrow.Author.Tests.{ltb-false, eq-eqb}
+use lib.Ieee.{Float, nan, inf, fin, Format, up, down, below, level, lt, eq, le, ne, fits, isNan}
+use lib.Ieee.Fits.{and-i}
+use lib.Ieee.Exact.{HasValue}
+use lib.Ieee.Positive.{num, den, den-pos, positive, own-value, le→cross}
+use Rattle.laws.specs.Choice.{pick, pick-if}
+use Rattle.numbers.proofs.Tests.{ne-self}
+use Rattle.numbers.proofs.Values.{unique}
+use Rattle.numbers.specs.Order.{minOf, maxOf, clampOf}
+
+-- ---- the order: of two that are no NaN, the one is below the other or the other is at most the one
+
+or-l : (a b : Bool) → T a → T (a || b)
+or-l true b h = tt
+or-l false b h = absurd h
+
+or-r : (a b : Bool) → T b → T (a || b)
+or-r true b h = tt
+or-r false b h = h
+
+holds : (b : Bool) → b ≡ true → T b
+holds b h = subst T (sym h) tt
+
+le-or : (a b : ℕ) → a ≤ b → T (ltb a b || (eqb b a && true))
+le-or a b h = go (eq-or-lt-of-le h)
+  where
+    go : (a ≡ b) ⊎ (a < b) → T (ltb a b || (eqb b a && true))
+    go (inl e) = or-r (ltb a b) (eqb b a && true) (and-i (eqb b a) true (holds (eqb b a) (eq-eqb b a (sym e))) tt)
+    go (inr l) = or-l (ltb a b) (eqb b a && true) (lt→ltb a b l)
+
+le-or' : (a b : ℕ) → b ≤ a → T (ltb b a || (eqb b a && true))
+le-or' a b h = go (eq-or-lt-of-le h)
+  where
+    go : (b ≡ a) ⊎ (b < a) → T (ltb b a || (eqb b a && true))
+    go (inl e) = or-r (ltb b a) (eqb b a && true) (and-i (eqb b a) true (holds (eqb b a) (eq-eqb b a e)) tt)
+    go (inr l) = or-l (ltb b a) (eqb b a && true) (lt→ltb b a l)
+
+both-zero : (a b : ℕ) → a + b ≤ 0 → T (eqb b a && eqb b 0)
+both-zero a b h =
+    let p : b ≡ a = omega arith in
+    let q : b ≡ 0 = omega arith in
+    and-i (eqb b a) (eqb b 0) (holds (eqb b a) (eq-eqb b a p)) (holds (eqb b 0) (eq-eqb b 0 q))
+
+total-fin : (s t : Bool) (a b : ℕ) → below s a t b ≡ false → T (below t b s a || level t b s a)
+total-fin false false a b h = le-or' a b (ltb-false a b h)
+total-fin false true a b h = go (ltb 0 (b + a)) refl
+  where
+    go : (t : Bool) → ltb 0 (b + a) ≡ t → T (t || (eqb b a && eqb b 0))
+    go true e = tt
+    go false e = both-zero a b (let l : b + a ≤ 0 = ltb-false 0 (b + a) e in omega arith)
+total-fin true false a b h = both-zero a b (ltb-false 0 (a + b) h)
+total-fin true true a b h = le-or a b (ltb-false b a h)
+
+pub total : (x y : Float) → T (not (isNan x)) → T (not (isNan y)) → lt x y ≡ false → T (le y x)
+unfolding lt le isNan
+total nan y p q h = absurd p
+total (inf s) nan p q h = absurd q
+total (inf true) (inf true) p q h = tt
+total (inf true) (inf false) p q h = absurd (true≢false h)
+total (inf false) (inf true) p q h = tt
+total (inf false) (inf false) p q h = tt
+total (inf true) (fin t n d) p q h = absurd (true≢false h)
+total (inf false) (fin t n d) p q h = tt
+total (fin s m e) nan p q h = absurd q
+total (fin s m e) (inf true) p q h = tt
+total (fin s m e) (inf false) p q h = absurd (true≢false h)
+total (fin s m e) (fin t n d) p q h = total-fin s t (m * up e * down d) (n * up d * down e) h
+
+pub le-self : (x : Float) → T (not (isNan x)) → T (le x x)
+unfolding le ne
+le-self x p = or-r (lt x x) (eq x x) (not-not (eq x x) (subst (λ (b : Bool). T (not b)) (sym (ne-self x)) p))
+  where
+    not-not : (b : Bool) → T (not (not b)) → T b
+    not-not true h = tt
+    not-not false h = h
+
+pub lt-le : (x y : Float) → lt x y ≡ true → T (le x y)
+unfolding le
+lt-le x y h = or-l (lt x y) (eq x y) (holds (lt x y) h)
+
+-- two positive values of a format that are at most each other are the same
+value-of-cross : (x : Float) (a c : ℕ) → T (positive x) → num x * c ≡ a * den x → HasValue x false a c
+value-of-cross nan a c p e = absurd p
+value-of-cross (inf s) a c p e = absurd p
+value-of-cross (fin true m d) a c p e = absurd p
+value-of-cross (fin false m d) a c p e = (refl, e)
+
+pub same-of-le : (f : Format) (x y : Float) → T (fits f x) → T (fits f y) → T (positive x) → T (positive y) → T (le x y) → T (le y x) → x ≡ y
+same-of-le f x y X Y p q h k = unique f x y false (num y) (den y) (den-pos y) X Y (value-of-cross x (num y) (den y) p (le-antisymm (le→cross x y p q h) (le→cross y x q p k))) (own-value y q)
+
+module _ (x y : Float) (Y : T (not (isNan y))) where
+  -- with a NaN on the left the other operand is given, so this asks nothing of x
+  pub min-right : T (le (minOf x y) y)
+  unfolding minOf
+  min-right = pick-if (λ r. T (le r y)) (isNan x) (λ _. le-self y Y)
+      (λ n. pick-if (λ r. T (le r y)) (lt y x) (λ _. le-self y Y) (λ l. total y x Y (subst (λ (b : Bool). T (not b)) (sym n) tt) l))
+
+  pub max-right : T (le y (maxOf x y))
+  unfolding maxOf
+  max-right = pick-if (λ r. T (le y r)) (isNan x) (λ _. le-self y Y)
+      (λ n. pick-if (λ r. T (le y r)) (lt x y) (λ _. le-self y Y) (λ l. total x y (subst (λ (b : Bool). T (not b)) (sym n) tt) Y l))
+
+module _ (x y : Float) (X : isNan x ≡ false) where
+  pub min-left : T (le (minOf x y) x)
+  unfolding minOf
+  min-left = pick-if (λ r. T (le r x)) (isNan x) (λ n. absurd (true≢false (sym n ∙ X)))
+      (λ n. pick-if (λ r. T (le r x)) (lt y x) (lt-le y x) (λ _. le-self x (subst (λ (b : Bool). T (not b)) (sym X) tt)))
+
+  pub max-left : T (le x (maxOf x y))
+  unfolding maxOf
+  max-left = pick-if (λ r. T (le x r)) (isNan x) (λ n. absurd (true≢false (sym n ∙ X)))
+      (λ n. pick-if (λ r. T (le x r)) (lt x y) (lt-le x y) (λ _. le-self x (subst (λ (b : Bool). T (not b)) (sym X) tt)))
+
+module _ (x lo hi : Float) (X : T (not (isNan x))) (L : T (not (isNan lo))) (H : T (not (isNan hi))) (ordered : T (le lo hi)) where
+  pub clamp-low : T (le lo (clampOf x lo hi))
+  unfolding clampOf
+  clamp-low = pick-if (λ r. T (le lo r)) (lt x lo) (λ _. le-self lo L) (λ l. pick-if (λ r. T (le lo r)) (lt hi x) (λ _. ordered) (λ _. total x lo X L l))
+
+  pub clamp-high : T (le (clampOf x lo hi) hi)
+  unfolding clampOf
+  clamp-high = pick-if (λ r. T (le r hi)) (lt x lo) (λ _. ordered) (λ _. pick-if (λ r. T (le r hi)) (lt hi x) (λ _. le-self hi H) (total hi x H X))
+
+-- a NaN stays
+pub clamp-nan : (lo hi : Float) → clampOf nan lo hi ≡ nan
+unfolding clampOf lt pick
+clamp-nan lo nan = refl
+clamp-nan lo (inf true) = refl
+clamp-nan lo (inf false) = refl
+clamp-nan lo (fin s m e) = refl

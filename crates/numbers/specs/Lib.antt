@@ -1,0 +1,6 @@
+pub mod Order
+pub mod Finite
+pub mod Narrowing
+pub mod Zeros
+pub mod Ranges
+pub mod Marked

@@ -1,0 +1,65 @@
+// Sizes, and the order of two numbers.
+ghost use mathlib.Core.Path.{_≡_};
+ghost use Rattle.numbers.specs.Order.{absOf, minOf, maxOf, clampOf};
+
+// |x|: the sign is cleared, of a zero and an infinity too.
+pub fn abs(x: f64) -> f64
+    ensures { λ r. ⌜ r ≡ absOf x ⌝ }
+{
+    if x < 0.0 {
+        return -x;
+    }
+    if x == 0.0 {
+        return 0.0;
+    }
+    x
+}
+
+pub fn abs32(s: f32) -> f32
+    ensures { λ r. ⌜ r ≡ absOf s ⌝ }
+{
+    if s < 0.0 {
+        return -s;
+    }
+    if s == 0.0 {
+        return 0.0f32;
+    }
+    s
+}
+
+pub fn min(x: f64, y: f64) -> f64
+    ensures { λ r. ⌜ r ≡ minOf x y ⌝ }
+{
+    if x != x {
+        return y;
+    }
+    if y < x { y } else { x }
+}
+
+pub fn max(x: f64, y: f64) -> f64
+    ensures { λ r. ⌜ r ≡ maxOf x y ⌝ }
+{
+    if x != x {
+        return y;
+    }
+    if x < y { y } else { x }
+}
+
+pub fn max32(a: f32, b: f32) -> f32
+    ensures { λ r. ⌜ r ≡ maxOf a b ⌝ }
+{
+    if a != a {
+        return b;
+    }
+    if a < b { b } else { a }
+}
+
+// x held between lo and hi. A NaN stays, and no lo or hi is refused: where hi is below lo, lo is tried first.
+pub fn clamp(x: f64, lo: f64, hi: f64) -> f64
+    ensures { λ r. ⌜ r ≡ clampOf x lo hi ⌝ }
+{
+    if x < lo {
+        return lo;
+    }
+    if hi < x { hi } else { x }
+}
