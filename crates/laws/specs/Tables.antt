@@ -1,8 +1,8 @@
 -- A constant table and its rule: one test that antt computes over the whole table, and the law that turns it into the rule at
 -- each entry. Assumes nothing.
 --     table n f            f 0, f 1, .. up to n entries; table2 n f g the same by pairs, f 0, g 0, f 1, g 1, ..
---     table-at             what a table holds at k
---     is-table             a list that passes the test entry by entry IS the table of f
+--     table-at, table2-at  what a table holds at k
+--     is-table, is-table2  a list that passes the test entry by entry IS the table of f, or of f and g
 --     entry-at             a rule of place and entry, at each entry of a list that passes it
 --     at-below             a rule of the numbers below n
 use mathlib.Core.Path.{_≡_, refl, sym, _∙_, ap, subst}
@@ -26,6 +26,12 @@ and-r false b h = absurd h
 onward : (i k : ℕ) → suc i + k ≡ i + suc k
 onward i k = suc-add i k ∙ sym (add-suc i k)
 
+double : (n : ℕ) → 2 * suc n ≡ suc (suc (2 * n))
+double n = omega arith
+
+double-one : (n : ℕ) → suc (suc (2 * n)) + 1 ≡ suc (suc (2 * n + 1))
+double-one n = omega arith
+
 module _ {A : Type 0} where
   unfoldable pub table : ℕ → (ℕ → A) → List A
   table zero f = []
@@ -43,16 +49,20 @@ module _ {A : Type 0} where
   pub length-table2 : (n : ℕ) (f g : ℕ → A) → length (table2 n f g) ≡ 2 * n
   unfolding table2
   length-table2 zero f g = refl
-  length-table2 (suc n) f g = ap (λ (k : ℕ). suc (suc k)) (length-table2 n (λ k. f (suc k)) (λ k. g (suc k))) ∙ twice n
-    where
-      twice : (n : ℕ) → suc (suc (2 * n)) ≡ 2 * suc n
-      twice n = omega arith
+  length-table2 (suc n) f g = ap (λ (k : ℕ). suc (suc k)) (length-table2 n (λ k. f (suc k)) (λ k. g (suc k))) ∙ sym (double n)
 
   pub table-at : (n : ℕ) (f : ℕ → A) (k : ℕ) (d : A) → k < n → getD (table n f) k d ≡ f k
   unfolding table
   table-at zero f k d h = absurd (not-suc-le-zero h)
   table-at (suc n) f zero d h = refl
   table-at (suc n) f (suc k) d h = table-at n (λ j. f (suc j)) k d (le-of-suc-le-suc h)
+
+  -- of pairs: what stands at 2k and at 2k + 1
+  pub table2-at : (n : ℕ) (f g : ℕ → A) (k : ℕ) (d : A) → k < n → (getD (table2 n f g) (2 * k) d ≡ f k) × (getD (table2 n f g) (2 * k + 1) d ≡ g k)
+  unfolding table2
+  table2-at zero f g k d h = absurd (not-suc-le-zero h)
+  table2-at (suc n) f g zero d h = (refl, refl)
+  table2-at (suc n) f g (suc k) d h = rw (double, double-one) (table2-at n (λ j. f (suc j)) (λ j. g (suc j)) k d (le-of-suc-le-suc h))
 
   -- two rules that agree below n give the same table
   pub table-cong : (n : ℕ) (f g : ℕ → A) → ((k : ℕ) → k < n → f k ≡ g k) → table n f ≡ table n g
@@ -61,6 +71,16 @@ module _ {A : Type 0} where
   table-cong (suc n) f g h =
       ap (λ (x : A). x ∷ table n (λ k. f (suc k))) (h 0 (omega arith))
       ∙ ap (λ (l : List A). g 0 ∷ l) (table-cong n (λ k. f (suc k)) (λ k. g (suc k)) (λ k l. h (suc k) (omega arith)))
+
+  pub table2-cong : (n : ℕ) (f f' g g' : ℕ → A) → ((k : ℕ) → k < n → f k ≡ f' k) → ((k : ℕ) → k < n → g k ≡ g' k) → table2 n f g ≡ table2 n f' g'
+  unfolding table2
+  table2-cong zero f f' g g' h h' = refl
+  table2-cong (suc n) f f' g g' h h' =
+      let a : f 0 ≡ f' 0 = h 0 (omega arith) in
+      let b : g 0 ≡ g' 0 = h' 0 (omega arith) in
+      let r : table2 n (λ k. f (suc k)) (λ k. g (suc k)) ≡ table2 n (λ k. f' (suc k)) (λ k. g' (suc k)) =
+      table2-cong n (λ k. f (suc k)) (λ k. f' (suc k)) (λ k. g (suc k)) (λ k. g' (suc k)) (λ k l. h (suc k) (omega arith)) (λ k l. h' (suc k) (omega arith)) in
+      cc
 
   module _ (alike : A → A → Bool) (sound : (x y : A) → T (alike x y) → x ≡ y) where
     -- the entry at each place, counted from i, is what f gives
@@ -80,6 +100,31 @@ module _ {A : Type 0} where
 
     pub is-table : (f : ℕ → A) (xs : List A) → T (agrees f 0 xs) → xs ≡ table (length xs) f
     is-table f xs t = from-table f 0 xs t ∙ table-cong (length xs) (λ k. f (0 + k)) f (λ k l. ap f (zero-add k))
+
+    -- the same of pairs
+    abbrev pub agrees2 : (ℕ → A) → (ℕ → A) → ℕ → List A → Bool
+    agrees2 f g i [] = true
+    agrees2 f g i (x ∷ []) = false
+    agrees2 f g i (x ∷ y ∷ xs) = alike x (f i) && (alike y (g i) && agrees2 f g (suc i) xs)
+
+    from-table2 : (f g : ℕ → A) (i n : ℕ) (xs : List A) → length xs ≡ 2 * n → T (agrees2 f g i xs) → xs ≡ table2 n (λ k. f (i + k)) (λ k. g (i + k))
+    unfolding table2
+    from-table2 f g i zero [] e t = refl
+    from-table2 f g i zero (x ∷ xs) e t = absurd (omega arith)
+    from-table2 f g i (suc n) [] e t = absurd (omega arith)
+    from-table2 f g i (suc n) (x ∷ []) e t = absurd t
+    from-table2 f g i (suc n) (x ∷ y ∷ xs) e t =
+        let u = and-r (alike x (f i)) (alike y (g i) && agrees2 f g (suc i) xs) t in
+        let h : x ≡ f (i + 0) = sound x (f i) (and-l (alike x (f i)) (alike y (g i) && agrees2 f g (suc i) xs) t) ∙ ap f (sym (add-zero i)) in
+        let k : y ≡ g (i + 0) = sound y (g i) (and-l (alike y (g i)) (agrees2 f g (suc i) xs) u) ∙ ap g (sym (add-zero i)) in
+        let r : xs ≡ table2 n (λ k. f (i + suc k)) (λ k. g (i + suc k)) =
+        from-table2 f g (suc i) n xs (omega arith) (and-r (alike y (g i)) (agrees2 f g (suc i) xs) u)
+        ∙ table2-cong n (λ k. f (suc i + k)) (λ k. f (i + suc k)) (λ k. g (suc i + k)) (λ k. g (i + suc k)) (λ k l. ap f (onward i k)) (λ k l. ap g (onward i k)) in
+        cc
+
+    pub is-table2 : (f g : ℕ → A) (n : ℕ) (xs : List A) → length xs ≡ 2 * n → T (agrees2 f g 0 xs) → xs ≡ table2 n f g
+    is-table2 f g n xs e t =
+        from-table2 f g 0 n xs e t ∙ table2-cong n (λ k. f (0 + k)) f (λ k. g (0 + k)) g (λ k l. ap f (zero-add k)) (λ k l. ap g (zero-add k))
 
   -- a test of each place, counted from i, and its entry
   abbrev pub passesAt : (ℕ → A → Bool) → ℕ → List A → Bool

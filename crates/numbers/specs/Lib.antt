@@ -4,3 +4,4 @@ pub mod Narrowing
 pub mod Zeros
 pub mod Ranges
 pub mod Marked
+pub mod Same
