@@ -1,0 +1,342 @@
+//! Cases for the crate `numbers`, with the answers that Rust gives. `oracle/lists` writes them to
+//! crates/numbers_cases/stdin, which the program `numbers_cases` replays.
+//!
+//! A line is a letter, then four fields of 16 hex digits: operands a, b, c and the answer r. An
+//! operand that is not used is 0, and a pattern of 32 bits stands in the low half.
+//!
+//!     n  narrow              r = a as f32
+//!     N  narrow_bits         r = the bits of a as f32
+//!     w  widen               r = a as f64, of an f32
+//!     a  abs, A abs32        r = a.abs()
+//!     i  min                 r = a.min(b)
+//!     x  max, X max32        r = a.max(b)
+//!     c  clamp               r = a.clamp(b, c)
+//!     f  is_finite, F is_finite32       r = 1 where a is finite, else 0
+//!     z  finite_or_zero      r = a where a is finite, else +0.0, of an f32
+//!     b  from_bits then to_bits, B from_bits32 then to_bits32      r = a
+//!
+//! Rust does not say which NaN an operation gives, so every NaN answer is written as one pattern,
+//! 7ff8000000000000 or 7fc00000. Left out is what Rust leaves open or refuses:
+//! - `min` and `max` of +0.0 and -0.0, which may give either;
+//! - `clamp` to a zero with zeros of both signs among its operands, which may give either too;
+//! - `clamp` with a NaN for a bound, or with bounds in the wrong order, which panics;
+//! - `min` and `max` of a number and a signalling NaN: Rust's pages promise the number, as for a
+//!   quiet one, and rustc 1.95 gives a NaN on Arm (aarch64), where the lists are made.
+
+use std::collections::HashSet;
+
+/// A format of IEEE 754, by its widths.
+#[derive(Clone, Copy)]
+struct Format {
+    digits: u32,
+    exponents: u32,
+}
+
+const F32: Format = Format {
+    digits: 23,
+    exponents: 8,
+};
+const F64: Format = Format {
+    digits: 52,
+    exponents: 11,
+};
+
+impl Format {
+    fn sign(self) -> u64 {
+        1 << (self.digits + self.exponents)
+    }
+
+    fn pattern(self, exponent: u64, digits: u64) -> u64 {
+        exponent << self.digits | digits
+    }
+
+    /// The exponent's field of infinities and NaNs.
+    fn top(self) -> u64 {
+        (1 << self.exponents) - 1
+    }
+
+    fn ones(self) -> u64 {
+        (1 << self.digits) - 1
+    }
+
+    fn infinity(self) -> u64 {
+        self.pattern(self.top(), 0)
+    }
+
+    /// The NaN whose first digit, alone, is set. With less in its digits a NaN is signalling.
+    fn quiet(self) -> u64 {
+        self.infinity() | 1 << (self.digits - 1)
+    }
+
+    fn is_signalling(self, p: u64) -> bool {
+        let size = p % self.sign();
+        self.infinity() < size && size < self.quiet()
+    }
+}
+
+/// Marsaglia's xorshift with a multiplication, from a fixed seed: the list is the same at each run.
+struct Random(u64);
+
+impl Random {
+    fn next(&mut self) -> u64 {
+        self.0 ^= self.0 >> 12;
+        self.0 ^= self.0 << 25;
+        self.0 ^= self.0 >> 27;
+        self.0.wrapping_mul(0x2545_f491_4f6c_dd1d)
+    }
+
+    /// Below `n`, from the high bits.
+    fn below(&mut self, n: u64) -> u64 {
+        (self.next() >> 11) % n
+    }
+
+    fn bits(&mut self, f: Format) -> u64 {
+        self.next() >> (63 - f.digits - f.exponents)
+    }
+}
+
+/// The lines, each once.
+struct List {
+    text: String,
+    seen: HashSet<(char, [u64; 3])>,
+}
+
+impl List {
+    fn put(&mut self, letter: char, operands: [u64; 3], answer: u64) {
+        if self.seen.insert((letter, operands)) {
+            let [a, b, c] = operands;
+            self.text += &format!("{letter} {a:016x} {b:016x} {c:016x} {answer:016x}\n");
+        }
+    }
+}
+
+fn bits(x: f64) -> u64 {
+    if x.is_nan() {
+        0x7ff8_0000_0000_0000
+    } else {
+        x.to_bits()
+    }
+}
+
+fn bits32(x: f32) -> u64 {
+    if x.is_nan() {
+        0x7fc0_0000
+    } else {
+        x.to_bits().into()
+    }
+}
+
+fn float32(pattern: u64) -> f32 {
+    f32::from_bits(pattern as u32)
+}
+
+fn main() {
+    let mut random = Random(0x9e37_79b9_7f4a_7c15);
+    let mut list = List {
+        text: String::new(),
+        seen: HashSet::new(),
+    };
+    narrowing(&mut list, &mut random);
+    of_one(&mut list, &mut random);
+    of_one32(&mut list, &mut random);
+    of_two(&mut list, &mut random);
+    clamping(&mut list, &mut random);
+    print!("{}", list.text);
+}
+
+/// `n` for every pattern, with both signs, and `N` for a quarter of them.
+fn narrowing(list: &mut List, random: &mut Random) {
+    let mut patterns = borders();
+    patterns.extend(normal_ties(random));
+    patterns.extend(subnormal_ties(random));
+    // subnormal f64s of every size, f32s, any pattern, and the exponents of f32s with some to either side
+    patterns.extend((0..52).step_by(2).map(|k| 1 << k | random.below(1 << k)));
+    patterns.extend((0..50).map(|_| (float32(random.bits(F32)) as f64).to_bits()));
+    patterns.extend((0..130).map(|_| random.bits(F64)));
+    patterns.extend((0..280).map(|_| F64.pattern(868 + random.below(289), random.below(1 << 52))));
+    for (k, positive) in patterns.into_iter().enumerate() {
+        for (s, p) in [positive, positive ^ F64.sign()].into_iter().enumerate() {
+            let r = f64::from_bits(p) as f32;
+            list.put('n', [p, 0, 0], bits32(r));
+            if (k + 2 * s) % 4 == 0 {
+                list.put('N', [p, 0, 0], bits32(r));
+            }
+        }
+    }
+}
+
+/// Digits that decide a rounding, at each exponent where the way of rounding changes. As fields of the
+/// exponent: 873 with digits 0 is 2^-150, half of the smallest f32, and below it all is 0; 897 is
+/// 2^-126, where normal results start; 1150 with digits 2^52 - 2^28 is 2^128 - 2^103, the tie
+/// between the largest f32 and the infinity; 0 has the subnormal f64s, and 2047 infinities and NaNs,
+/// signalling (the first digit 0) and quiet, with some payloads.
+fn borders() -> Vec<u64> {
+    let tie = 1u64 << 28;
+    let half = 1u64 << 51;
+    let end = 1u64 << 52;
+    let near = |d: u64| [d - 1, d, d + 1];
+    let mut digits = vec![0, 1, 2, end - 2, end - 1, 0xd_eadb_eefd_eadb];
+    digits.extend(near(tie));
+    digits.extend(near(3 * tie));
+    digits.extend(near(half));
+    digits.extend(near(end - tie));
+    let mut patterns = Vec::new();
+    for exponents in [
+        0..=2,
+        871..=875,
+        895..=899,
+        1022..=1024,
+        1149..=1152,
+        2045..=2047,
+    ] {
+        for exponent in exponents {
+            patterns.extend(digits.iter().map(|d| F64.pattern(exponent, *d)));
+        }
+    }
+    patterns
+}
+
+/// Halfway between two normal f32s, with an even and an odd digit to keep, and the f64s beside it.
+fn normal_ties(random: &mut Random) -> Vec<u64> {
+    let mut patterns = Vec::new();
+    for exponent in (897..=1150).step_by(11) {
+        for odd in 0..2 {
+            let kept = random.below(1 << 22) << 1 | odd;
+            let p = F64.pattern(exponent, kept << 29 | 1 << 28);
+            patterns.extend([p - 1, p, p + 1]);
+        }
+    }
+    patterns
+}
+
+/// The same for subnormal f32s, whose unit 2^-149 is 2^(926 - exponent) of an f64's last digit.
+fn subnormal_ties(random: &mut Random) -> Vec<u64> {
+    let mut patterns = vec![F64.pattern(873, 0)];
+    for exponent in 874..=896 {
+        let unit = 1u64 << (926 - exponent);
+        let least = (1 << 52) / unit;
+        for odd in 0..2 {
+            let kept = (least + random.below(least)) & !1 | odd;
+            let m = kept.max(least) * unit + unit / 2;
+            let p = F64.pattern(exponent, m - (1 << 52));
+            patterns.extend([p - 1, p, p + 1]);
+        }
+    }
+    patterns
+}
+
+/// 210 patterns: both signs of the least, the largest and some other digits at the exponents of
+/// subnormals, of numbers about 1, of the largest numbers and of infinities and NaNs; the rest random.
+fn spread(f: Format, random: &mut Random) -> Vec<u64> {
+    let middle = f.top() / 2;
+    let mut patterns = Vec::new();
+    for exponent in [0, 1, middle - 1, middle, middle + 1, f.top() - 1, f.top()] {
+        for digits in [0, 1, 1 << (f.digits - 1), f.ones() / 3, f.ones()] {
+            let p = f.pattern(exponent, digits);
+            patterns.extend([p, p | f.sign()]);
+        }
+    }
+    patterns.extend((patterns.len()..210).map(|_| random.bits(f)));
+    patterns
+}
+
+fn of_one(list: &mut List, random: &mut Random) {
+    for p in spread(F64, random) {
+        let x = f64::from_bits(p);
+        list.put('a', [p, 0, 0], bits(x.abs()));
+        list.put('f', [p, 0, 0], x.is_finite().into());
+        list.put('b', [p, 0, 0], bits(x));
+    }
+}
+
+fn of_one32(list: &mut List, random: &mut Random) {
+    for p in spread(F32, random) {
+        let x = float32(p);
+        list.put('A', [p, 0, 0], bits32(x.abs()));
+        list.put('F', [p, 0, 0], x.is_finite().into());
+        list.put('B', [p, 0, 0], bits32(x));
+        list.put('w', [p, 0, 0], bits(x as f64));
+        list.put('z', [p, 0, 0], bits32(if x.is_finite() { x } else { 0.0 }));
+    }
+}
+
+/// Zeros, the smallest and the largest subnormal, 1, the largest number and the infinity, each with
+/// both signs, and two quiet NaNs, one of them negative and with a payload.
+fn specials(f: Format) -> Vec<u64> {
+    let one = f.pattern(f.top() / 2, 0);
+    let largest = f.pattern(f.top() - 1, f.ones());
+    let mut patterns = Vec::new();
+    for p in [0, 1, f.ones(), one, largest, f.infinity()] {
+        patterns.extend([p, p | f.sign()]);
+    }
+    patterns.extend([f.quiet(), f.sign() | f.quiet() | 1]);
+    patterns
+}
+
+/// Every special with every special, and random patterns: with another, with the next, with itself.
+/// Without what is left out: the two zeros, and a signalling NaN.
+fn pairs(f: Format, random: &mut Random) -> Vec<[u64; 2]> {
+    let all = specials(f);
+    let mut pairs = Vec::new();
+    for p in &all {
+        pairs.extend(all.iter().map(|q| [*p, *q]));
+    }
+    for _ in 0..12 {
+        let p = random.bits(f);
+        pairs.extend([[p, random.bits(f)], [p, p ^ 1], [p, p]]);
+    }
+    pairs.retain(|[p, q]| p == q || p | q != f.sign());
+    pairs.retain(|pair| !pair.iter().any(|p| f.is_signalling(*p)));
+    pairs
+}
+
+fn of_two(list: &mut List, random: &mut Random) {
+    for [p, q] in pairs(F64, random) {
+        let (x, y) = (f64::from_bits(p), f64::from_bits(q));
+        list.put('i', [p, q, 0], bits(x.min(y)));
+        list.put('x', [p, q, 0], bits(x.max(y)));
+    }
+    for [p, q] in pairs(F32, random) {
+        list.put('X', [p, q, 0], bits32(float32(p).max(float32(q))));
+    }
+}
+
+/// A few ranges, with every special, and random triples.
+fn clamping(list: &mut List, random: &mut Random) {
+    let inf = f64::INFINITY;
+    let tiny = f64::from_bits(1);
+    let ranges = [
+        [-inf, -tiny],
+        [-inf, inf],
+        [-f64::MAX, -1.0],
+        [-1.0, -0.0],
+        [-1.0, 1.0],
+        [-0.0, 0.0],
+        [0.0, 0.0],
+        [0.0, 1.0],
+        [tiny, inf],
+        [0.01, 1.0],
+        [1.0, 1.0],
+        [f64::MAX, inf],
+        [inf, inf],
+    ];
+    let mut triples = Vec::new();
+    for [lo, hi] in ranges {
+        triples.extend(specials(F64).iter().map(|p| [f64::from_bits(*p), lo, hi]));
+    }
+    for _ in 0..60 {
+        let [x, y, z] = [0; 3].map(|_| f64::from_bits(random.bits(F64)));
+        triples.extend([[x, y, z], [y, x, z]]);
+    }
+    for [x, lo, hi] in triples {
+        if lo <= hi && !is_open(x, lo, hi) {
+            list.put('c', [x, lo, hi].map(f64::to_bits), bits(x.clamp(lo, hi)));
+        }
+    }
+}
+
+/// Whether `clamp` may give either zero.
+fn is_open(x: f64, lo: f64, hi: f64) -> bool {
+    let has = |zero: f64| [x, lo, hi].map(f64::to_bits).contains(&zero.to_bits());
+    has(0.0) && has(-0.0) && x.clamp(lo, hi) == 0.0
+}
