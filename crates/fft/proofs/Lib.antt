@@ -1,0 +1,10 @@
+pub mod Spans
+pub mod Lengths
+pub mod Places
+pub mod Reversing
+pub mod Permuted
+pub mod Stages
+pub mod Keeps
+pub mod Silence
+pub mod Sizes
+pub mod Marked

@@ -1,0 +1,4 @@
+mod Computed
+pub mod Angles
+pub mod Entries
+pub mod Marked

@@ -1,0 +1,3 @@
+pub mod Trig
+pub mod Tables
+pub mod Marked
