@@ -8,3 +8,4 @@ pub mod Keeps
 pub mod Silence
 pub mod Sizes
 pub mod Marked
+pub mod Served
