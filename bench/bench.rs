@@ -1,0 +1,179 @@
+//! Times the port and the Rust side by side, and prints a table.
+//!
+//! A round makes new numbers for eight calls and times each side on its own copy of them, the two going
+//! first in turn: numbers that come again would teach the processor where each branch goes. A time is the
+//! median of all rounds, for one call. A batch of a hundred rounds has a ratio, that of its own medians, and
+//! of these the table has the median, the 10th and the 90th percentile.
+
+mod fft;
+mod host;
+mod inputs;
+mod reference;
+
+use fft::{Complex, ComplexFft, RealFft};
+use inputs::{turned, Noise};
+use reference::{complexes, numbers, POINTS, SAMPLES, SPECTRUM};
+use std::array::from_fn;
+use std::hint::black_box;
+use std::time::Instant;
+
+const CALLS: usize = 8;
+const ROUNDS: usize = 100;
+const BATCHES: usize = 100;
+
+fn main() {
+    println!("| | Rust, ns | Rattle, ns | ratio | its 10th to 90th percentile |");
+    println!("|---|---|---|---|---|");
+    forward();
+    inverse();
+    complex_forward();
+    narrow();
+}
+
+/// Sound from another seed at each call.
+fn sounds() -> impl FnMut() -> Noise {
+    let mut word = 0x9e37_79b9_7f4a_7c15;
+    move || {
+        word = turned(word);
+        Noise::sound(word)
+    }
+}
+
+fn forward() {
+    let mut sounds = sounds();
+    let mut fft = RealFft::new(SAMPLES);
+    let mut bins = Vec::new();
+    let mut out = [0.0; SPECTRUM];
+    race(
+        "forward, 512 samples",
+        || {
+            let mut sound = sounds();
+            from_fn(|_| sound.number() as f32)
+        },
+        |input: &mut [f32; SAMPLES]| {
+            fft.forward(input, &mut bins);
+            black_box(&bins);
+        },
+        |input| {
+            host::forward(input, &mut out);
+            black_box(&out);
+        },
+    );
+}
+
+/// Of spectra that forward gave.
+fn inverse() {
+    let mut sounds = sounds();
+    let mut maker = RealFft::new(SAMPLES);
+    let mut fft = RealFft::new(SAMPLES);
+    let mut samples = Vec::new();
+    let mut out = [0.0; SAMPLES];
+    race(
+        "inverse, 257 bins",
+        || {
+            let mut sound = sounds();
+            let input: [f32; SAMPLES] = from_fn(|_| sound.number() as f32);
+            let mut bins = Vec::new();
+            maker.forward(&input, &mut bins);
+            let flat = numbers(&bins);
+            (bins, flat)
+        },
+        |(bins, _): &mut (Vec<Complex>, Vec<f64>)| {
+            fft.inverse(bins, &mut samples);
+            black_box(&samples);
+        },
+        |(_, flat)| {
+            host::inverse(flat, &mut out);
+            black_box(&out);
+        },
+    );
+}
+
+fn complex_forward() {
+    let mut sounds = sounds();
+    let fft = ComplexFft::new(POINTS / 2);
+    race(
+        "complex forward, 256 points",
+        || {
+            let mut sound = sounds();
+            let flat: Vec<f64> = (0..POINTS).map(|_| sound.number()).collect();
+            (complexes(&flat), flat)
+        },
+        |(points, _): &mut (Vec<Complex>, Vec<f64>)| {
+            fft.forward(points);
+            black_box(&points);
+        },
+        |(_, flat)| {
+            host::complex_forward(flat);
+            black_box(&flat);
+        },
+    );
+}
+
+/// The library narrows one number a call. The Rust's is an instruction, which Rattle does not have.
+fn narrow() {
+    let mut sounds = sounds();
+    race(
+        "narrow, 512 numbers",
+        || {
+            let mut sound = sounds();
+            (from_fn(|_| sound.number()), [0.0; SAMPLES])
+        },
+        |(from, to): &mut ([f64; SAMPLES], [f32; SAMPLES])| {
+            for (x, y) in from.iter().zip(to.iter_mut()) {
+                *y = *x as f32;
+            }
+            black_box(&to);
+        },
+        |(from, to)| {
+            for (x, y) in from.iter().zip(to.iter_mut()) {
+                *y = host::narrow(*x);
+            }
+            black_box(&to);
+        },
+    );
+}
+
+/// One line of the table.
+fn race<T: Clone>(
+    name: &str,
+    mut make: impl FnMut() -> T,
+    mut rust: impl FnMut(&mut T),
+    mut port: impl FnMut(&mut T),
+) {
+    let (mut rusts, mut ports, mut ratios) = (Vec::new(), Vec::new(), Vec::new());
+    for _ in 0..BATCHES {
+        let (mut a, mut b) = (Vec::new(), Vec::new());
+        for round in 0..ROUNDS {
+            let mut for_rust: Vec<T> = (0..CALLS).map(|_| make()).collect();
+            let mut for_port = for_rust.clone();
+            if round % 2 == 0 {
+                a.push(time(&mut for_rust, &mut rust));
+                b.push(time(&mut for_port, &mut port));
+            } else {
+                b.push(time(&mut for_port, &mut port));
+                a.push(time(&mut for_rust, &mut rust));
+            }
+        }
+        ratios.push(percentile(&mut b, 50) / percentile(&mut a, 50));
+        rusts.extend(a);
+        ports.extend(b);
+    }
+    let (rust, port) = (percentile(&mut rusts, 50), percentile(&mut ports, 50));
+    let [low, ratio, high] = [10, 50, 90].map(|p| percentile(&mut ratios, p));
+    println!("| {name} | {rust:.0} | {port:.0} | {ratio:.2} | {low:.2} to {high:.2} |");
+}
+
+/// Nanoseconds a call.
+fn time<T>(inputs: &mut [T], run: &mut impl FnMut(&mut T)) -> f64 {
+    let start = Instant::now();
+    for input in inputs.iter_mut() {
+        run(black_box(input));
+    }
+    start.elapsed().as_nanos() as f64 / inputs.len() as f64
+}
+
+fn percentile(values: &mut [f64], percent: usize) -> f64 {
+    values.sort_by(f64::total_cmp);
+    values[values.len() * percent / 100]
+}

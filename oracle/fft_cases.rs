@@ -1,0 +1,295 @@
+//! Cases for the transform and its table, with the answers that the Rust gives. `oracle/lists` writes
+//! them to crates/fft_cases/stdin, which the program `fft_cases` replays. Its src/main.rt says what the
+//! fields of a line are.
+//!
+//!     f  forward      g  over lent tables      c  complex forward
+//!     i  inverse      j  over lent tables      r  complex inverse (the reverse)
+//!     b  both: forward, then inverse of what it gave
+//!     a  det_cos and det_sin of an angle       t  two numbers of the table
+//!
+//! In lower case a transform is run on noise, in upper case on a tone. The Rust lends no tables: `g`
+//! and `j` have the answers of `f` and `i`. It panics at a wrong length: that the answer is 2 and
+//! nothing is written is document 01's rule.
+
+mod fft;
+mod inputs;
+mod reference;
+
+use fft::{read_det_cos, read_det_sin, read_recombination};
+use inputs::{bits, turned, Noise, DIGITS, SIGN, SIZES};
+use reference::{Reference, DONE, POINTS, SAMPLES, SPECTRUM};
+use std::f64::consts::PI;
+
+/// The size of the buffers, of which a case lends the first part.
+const COUNT: usize = 1024;
+
+/// Where no number is marked.
+const NOWHERE: u64 = COUNT as u64;
+
+/// How a case's numbers are made, here and in crates/fft_cases/src/made.rt.
+#[derive(Clone, Copy)]
+enum Recipe {
+    /// Noise from the seed, by base and mask, and at one place a number with these bits.
+    Noise([u64; 5]),
+    /// Two numbers, then `c * y - x` after x and y: a sine whose step has the cosine c / 2.
+    Tone([f64; 3]),
+}
+
+impl Recipe {
+    fn fields(self) -> [u64; 5] {
+        match self {
+            Recipe::Noise(fields) => fields,
+            Recipe::Tone([c, first, second]) => {
+                [c.to_bits(), first.to_bits(), second.to_bits(), 0, 0]
+            }
+        }
+    }
+
+    fn numbers(self) -> [f64; COUNT] {
+        match self {
+            Recipe::Noise([word, base, mask, place, mark]) => {
+                let mut noise = Noise { word, base, mask };
+                let mut out = [0.0; COUNT].map(|_| noise.number());
+                if let Some(x) = out.get_mut(place as usize) {
+                    *x = f64::from_bits(mark);
+                }
+                out
+            }
+            Recipe::Tone([c, mut x, mut y]) => [0.0; COUNT].map(|_| {
+                let now = x;
+                (x, y) = (y, c * y - x);
+                now
+            }),
+        }
+    }
+}
+
+/// The lines so far, the Rust that answers them, and the word that the next seed comes from.
+struct List {
+    text: String,
+    rust: Reference,
+    word: u64,
+}
+
+impl List {
+    fn seed(&mut self) -> u64 {
+        self.word = turned(self.word);
+        self.word
+    }
+
+    fn line(&mut self, letter: char, fields: [u64; 12]) {
+        self.text.push(letter);
+        for field in fields {
+            self.text += &format!(" {field:016x}");
+        }
+        self.text.push('\n');
+    }
+
+    /// A transform's case. Of what it leaves in its buffer, the numbers at `at` and the next are shown.
+    fn case(&mut self, letter: char, recipe: Recipe, lengths: [usize; 2], at: usize) {
+        let mut numbers = recipe.numbers();
+        let answer = self.run(letter, &mut numbers, lengths);
+        let letter = match recipe {
+            Recipe::Noise(_) => letter,
+            Recipe::Tone(_) => letter.to_ascii_uppercase(),
+        };
+        let [a, b, c, d, e] = recipe.fields();
+        let [given, room, place] = [lengths[0], lengths[1], at].map(|n| n as u64);
+        let hash = hash(&numbers[..lengths[1]]);
+        let (first, second) = (bits(numbers[at]), bits(numbers[at + 1]));
+        let fields = [
+            a, b, c, d, e, given, room, place, answer, hash, first, second,
+        ];
+        self.line(letter, fields);
+    }
+
+    /// What the Rust answers. As in the program, the buffer that it writes holds the numbers before, narrowed
+    /// where it is one of samples, and what it holds after comes back.
+    fn run(&mut self, letter: char, numbers: &mut [f64; COUNT], [given, room]: [usize; 2]) -> u64 {
+        let mut samples = numbers.map(|x| x as f32);
+        let answer = match letter {
+            'f' | 'g' => self.rust.forward(&samples[..given], &mut numbers[..room]),
+            'c' => self.rust.complex_forward(&mut numbers[..given]),
+            'r' => self.rust.complex_inverse(&mut numbers[..given]),
+            'i' | 'j' => {
+                let answer = self.rust.inverse(&numbers[..given], &mut samples[..room]);
+                *numbers = samples.map(f64::from);
+                answer
+            }
+            _ => {
+                let answer = self.run('f', numbers, [given, SPECTRUM]);
+                if answer != DONE.into() {
+                    return answer;
+                }
+                return self.run('i', numbers, [SPECTRUM, room]);
+            }
+        };
+        answer.into()
+    }
+}
+
+/// As crates/fft_cases/src/hash.rt has it.
+fn hash(numbers: &[f64]) -> u64 {
+    let start = 0x9e37_79b9_7f4a_7c15;
+    numbers.iter().fold(start, |h, x| turned(h ^ bits(*x)))
+}
+
+/// The lengths that a letter's functions take.
+fn right(letter: char) -> [usize; 2] {
+    match letter {
+        'f' | 'g' => [SAMPLES, SPECTRUM],
+        'i' | 'j' => [SPECTRUM, SAMPLES],
+        'b' => [SAMPLES, SAMPLES],
+        _ => [POINTS, POINTS],
+    }
+}
+
+fn main() {
+    let mut list = List {
+        text: String::new(),
+        rust: Reference::new(),
+        word: 0x2545_f491_4f6c_dd1d,
+    };
+    to_look_at(&mut list);
+    kinds(&mut list);
+    marked(&mut list);
+    wrong_lengths(&mut list);
+    table(&mut list);
+    angles(&mut list);
+    print!("{}", list.text);
+}
+
+/// For a reader: bins 0, 1, 8, 128, 255 and 256 of an impulse at 0 and at 100, a constant, two sines, the
+/// first of them bin 8's own, and sound.
+fn to_look_at(list: &mut List) {
+    let one = 1.0f64.to_bits();
+    let sound = Noise::sound(list.seed());
+    let inputs = [
+        Recipe::Noise([0, 0, 0, 0, one]),
+        Recipe::Noise([0, 0, 0, 100, one]),
+        Recipe::Noise([0, one, 0, NOWHERE, 0]),
+        sine(-2.0 * PI / 64.0),
+        sine(-2.0 * PI / 10.4),
+        Recipe::Noise([sound.word, sound.base, sound.mask, NOWHERE, 0]),
+    ];
+    for recipe in inputs {
+        for letter in ['f', 'i', 'b', 'c', 'r'] {
+            for bin in [0, 1, 8, 128, 255, 256] {
+                if 2 * bin < right(letter)[1] {
+                    list.case(letter, recipe, right(letter), 2 * bin);
+                }
+            }
+        }
+    }
+}
+
+/// A sine of size 0.5. The step is written as det_cos takes it, from -pi to 0.
+fn sine(step: f64) -> Recipe {
+    Recipe::Tone([2.0 * read_det_cos(step), 0.0, -0.5 * read_det_sin(step)])
+}
+
+/// Kinds of numbers, by base and mask. As samples, those below 2^-126 are subnormal or zero, and those
+/// from 2^128 on infinite.
+const KINDS: [(u64, u64); 14] = [
+    (0, SIGN),                                 // silence with -0.0 strewn in
+    (0x3ff << 52, SIGN | SIZES | DIGITS),      // sound, 2^-15 to 2
+    (0x3ff << 52, SIGN | 0x7f << 52 | DIGITS), // 2^-127 to 2
+    (0, !(1 << 62)),                           // any below 2
+    (0, !0),                                   // any
+    (0x37f << 52, SIGN | SIZES | DIGITS),      // 2^-143 to 2^-127
+    (0, SIGN | SIZES | DIGITS),                // 2^-1074 to 2^-1007
+    (0, SIGN | DIGITS),                        // subnormal
+    (0x47e << 52, SIGN | DIGITS),              // 2^127 to 2^128
+    (0x47f << 52, SIGN | SIZES | DIGITS),      // 2^113 to 2^129
+    (0x7f5 << 52, SIGN | DIGITS),              // 2^1014 to 2^1015, whose sums are finite
+    (0x7fe << 52, SIGN | DIGITS),              // 2^1023 to 2^1024, whose sums are not
+    (0x7ff << 52, SIGN),                       // infinite
+    (0x7ff << 52, SIGN | DIGITS),              // NaN
+];
+
+/// Each kind three times, and once for the letters that are made of the first four.
+fn kinds(list: &mut List) {
+    for (base, mask) in KINDS {
+        for letter in "fffiiicccrrrgjb".chars() {
+            let recipe = Recipe::Noise([list.seed(), base, mask, NOWHERE, 0]);
+            let at = 2 * (list.seed() % 256) as usize;
+            list.case(letter, recipe, right(letter), at);
+        }
+    }
+}
+
+/// Sound, silence, and silence with -0.0 strewn in, each with one number of another kind.
+fn marked(list: &mut List) {
+    let sound = Noise::sound(0);
+    let kinds = [(sound.base, sound.mask), (0, 0), (0, SIGN)];
+    let marks = [
+        f64::NAN,
+        f64::INFINITY,
+        f64::NEG_INFINITY,
+        -0.0,
+        f64::MAX,
+        f64::from_bits(1),
+        f32::MAX.into(),
+        f32::from_bits(1).into(),
+    ];
+    for mark in marks {
+        for (base, mask) in kinds {
+            for letter in ['f', 'i', 'c', 'r'] {
+                let place = list.seed() % 512;
+                let recipe = Recipe::Noise([list.seed(), base, mask, place, bits(mark)]);
+                let at = 2 * (list.seed() % 256) as usize;
+                list.case(letter, recipe, right(letter), at);
+            }
+        }
+    }
+}
+
+/// One length wrong, the other, both, and the two changed about.
+fn wrong_lengths(list: &mut List) {
+    let sound = Noise::sound(0);
+    for letter in ['f', 'g', 'i', 'j', 'c', 'r', 'b'] {
+        let [given, room] = right(letter);
+        let mut lengths = vec![[room, given], [0, 0], [1024, 1024]];
+        for wrong in [0, 1, 256, 257, 511, 512, 513, 514, 515, 1023, 1024] {
+            lengths.extend([[wrong, room], [given, wrong], [wrong, wrong]]);
+        }
+        if letter == 'c' || letter == 'r' {
+            lengths.retain(|[given, room]| given == room);
+        }
+        lengths.retain(|pair| *pair != right(letter));
+        lengths.sort();
+        lengths.dedup();
+        for pair in lengths {
+            let recipe = Recipe::Noise([list.seed(), sound.base, sound.mask, NOWHERE, 0]);
+            list.case(letter, recipe, pair, 0);
+        }
+    }
+}
+
+fn table(list: &mut List) {
+    let entries: Vec<[f64; 2]> = read_recombination(&list.rust.real)
+        .iter()
+        .map(|z| [z.re, z.im])
+        .collect();
+    for (k, [re, im]) in entries.into_iter().enumerate() {
+        let at = 2 * k as u64;
+        list.line('t', [0, 0, 0, 0, 0, 0, 0, at, 0, 0, bits(re), bits(im)]);
+    }
+}
+
+/// The table's angles, and others from -pi to 0.
+fn angles(list: &mut List) {
+    let mut angles: Vec<f64> = (0..=256).map(|k| -2.0 * PI * k as f64 / 512.0).collect();
+    for x in [PI, PI / 2.0, PI / 4.0] {
+        angles.push(-x.next_down());
+    }
+    angles.extend([-(PI / 2.0).next_up(), -f64::MIN_POSITIVE]);
+    angles.extend([-f64::from_bits(1), 0.0]);
+    for _ in 0..60 {
+        angles.push(-PI * (list.seed() >> 11) as f64 / 2f64.powi(53));
+    }
+    for x in angles {
+        let (cos, sin) = (bits(read_det_cos(x)), bits(read_det_sin(x)));
+        list.line('a', [x.to_bits(), 0, 0, 0, 0, 0, 0, 0, 0, 0, cos, sin]);
+    }
+}

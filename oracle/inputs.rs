@@ -1,0 +1,54 @@
+//! Numbers to run the port and the Rust on, the same at each run.
+
+#![allow(dead_code)] // a driver uses a part
+
+pub const SIGN: u64 = 1 << 63;
+pub const DIGITS: u64 = (1 << 52) - 1;
+
+/// The low bits of the exponent's field: sixteen sizes, each twice the one before.
+pub const SIZES: u64 = 0xf << 52;
+
+/// Bit patterns, `base ^ (word & mask)`, the words coming one from the other.
+pub struct Noise {
+    pub word: u64,
+    pub base: u64,
+    pub mask: u64,
+}
+
+impl Noise {
+    /// Numbers of either sign from 2^-15 to 2 in size, as sound has them.
+    pub fn sound(word: u64) -> Noise {
+        Noise {
+            word,
+            base: 1.0f64.to_bits(),
+            mask: SIGN | SIZES | DIGITS,
+        }
+    }
+
+    pub fn number(&mut self) -> f64 {
+        self.word = turned(self.word);
+        f64::from_bits(self.base ^ (self.word & self.mask))
+    }
+
+    /// Of a base and a mask of 32 bits.
+    pub fn sample(&mut self) -> f32 {
+        self.word = turned(self.word);
+        f32::from_bits((self.base ^ (self.word & self.mask)) as u32)
+    }
+}
+
+/// The word after this one, by Marsaglia's xorshift. All words but 0 lie on one ring, and 0 stays.
+pub fn turned(word: u64) -> u64 {
+    let a = word ^ word << 13;
+    let b = a ^ a >> 7;
+    b ^ b << 17
+}
+
+/// One pattern for every NaN, since which one an operation gives is left open.
+pub fn bits(x: f64) -> u64 {
+    if x.is_nan() {
+        0x7ff8_0000_0000_0000
+    } else {
+        x.to_bits()
+    }
+}
