@@ -1,10 +1,15 @@
 // The host library: what C and Rust programs call. Each function hands its arguments to the proved one below it, and its promise is
 // that function's own, so there is nothing to believe here but the names.
+use rho::Answer;
+use rho::RhoCanceller;
+use rho::Started;
 ghost use mathlib.Core.Path.{_≡_};
 ghost use mathlib.Core.Bool.{true, false};
+ghost use mathlib.Core.List.{[]};
 ghost use lib.Ieee.{binary32, toBits};
 ghost use Rattle.numbers.specs.Narrowing.{narrowOf};
 ghost use Rattle.fft.specs.Calls.{forwardOf, inverseOf, complexOf};
+ghost use Rattle.rho.specs.Calls.{createOf, processOf, flushOf, resetOf};
 
 #[no_mangle]
 pub extern "C" fn aspeyruni_narrow(x: f64) -> f32
@@ -49,4 +54,48 @@ pub extern "C" fn aspeyruni_complex_inverse(points: &mut [f64]) -> u32
     ensures { λ r. ⌜ record { answer = r; out = now (points .exit) } ≡ complexOf true (now (points .entry)) ⌝ }
 {
     fft::complex_inverse(points)
+}
+
+#[no_mangle]
+pub extern "C" fn aspeyruni_rho_create(
+    sample_rate: u32,
+    tail_ms: u32,
+    weights: &mut [f32],
+    history: &mut [f32],
+) -> Started
+    ensures { λ r. ⌜ record { answer = r; weights = now (weights .exit); history = now (history .exit) } ≡ createOf «sample_rate» «tail_ms» (now (weights .entry)) (now (history .entry)) ⌝ }
+{
+    rho::create(sample_rate, tail_ms, weights, history)
+}
+
+#[no_mangle]
+pub extern "C" fn aspeyruni_rho_process(
+    s: RhoCanceller,
+    weights: &mut [f32],
+    history: &mut [f32],
+    near: &[f32],
+    far: &[f32],
+    out: &mut [f32],
+) -> Answer
+    ensures { λ r. ⌜ record { answer = r; weights = now (weights .exit); history = now (history .exit); out = now (out .exit) } ≡ processOf (record { state = s; weights = now (weights .entry); history = now (history .entry) }) (now (near .entry)) (now (far .entry)) (now (out .entry)) ⌝ }
+{
+    rho::process(s, weights, history, near, far, out)
+}
+
+#[no_mangle]
+pub extern "C" fn aspeyruni_rho_flush(s: RhoCanceller, weights: &[f32], history: &[f32]) -> Answer
+    ensures { λ r. ⌜ record { answer = r; weights = now (weights .entry); history = now (history .entry); out = [] } ≡ flushOf (record { state = s; weights = now (weights .entry); history = now (history .entry) }) ⌝ }
+{
+    rho::flush(s, weights, history)
+}
+
+#[no_mangle]
+pub extern "C" fn aspeyruni_rho_reset(
+    s: RhoCanceller,
+    weights: &mut [f32],
+    history: &mut [f32],
+) -> Started
+    ensures { λ r. ⌜ record { answer = r; weights = now (weights .exit); history = now (history .exit) } ≡ resetOf (record { state = s; weights = now (weights .entry); history = now (history .entry) }) ⌝ }
+{
+    rho::reset(s, weights, history)
 }

@@ -142,6 +142,13 @@ module _ {A : Type 0} where
   pub overAt-end : (b : ℕ) (f : ℕ → A → A) (d : List A) (i n : ℕ) {x : List A} → x ≡ overAt b i f d → i ≤ n → n ≤ i → x ≡ overAt b n f d
   overAt-end b f d i n e l g = e ∙ ap (λ (k : ℕ). overAt b k f d) (le-antisymm l g)
 
+  -- what lies ahead is as it was
+  pub overAt-ahead : (z : A) (b n k : ℕ) (f : ℕ → A → A) (d : List A) → n ≤ k → getD (overAt b n f d) (b + k) z ≡ getD d (b + k) z
+  unfolding overAt
+  overAt-ahead z zero n k f d h = rw zero-add (over-ahead z n k f d h)
+  overAt-ahead z (suc b) n k f [] h = refl
+  overAt-ahead z (suc b) n k f (x ∷ d) h = rw suc-add (overAt-ahead z b n k f d h)
+
   -- ---- over2
 
   -- (z stands for the y that the last x of an odd list lacks, so that no law asks for a length)

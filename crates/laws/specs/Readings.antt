@@ -1,6 +1,7 @@
 -- What a loop of Loops says in the words of lists: for theorems about a definition, and for a contract that is to be read without loops.
 --     iter-fold                            a sum over indices is a fold over the list
---     iter-cong, over-cong                 two bodies that agree at each index below n give the same
+--     iter-cong, over-cong, overAt-cong    two bodies that agree at each index below n give the same
+--     iter-split, over-split               m turns, and then k more
 --     over-over                            two passes are one
 --     over-fill, over-copy, over-map, over-mapped     all of a list: a constant, another list, f of each, f of each of another
 --     over-table, over2-table              all of a list, by place; what it held before is not mentioned
@@ -11,7 +12,7 @@
 use mathlib.Core.Path.{_≡_, refl, sym, ap, _∙_}
 use mathlib.Core.List.{List, [], _∷_, _++_, foldl, map}
 use Prim.Native.Nat.{ℕ, zero, suc, _+_, _-_, _*_, _≤_, _<_}
-use native.Mathlib.Nat.{not-suc-le-zero, le-of-suc-le-suc, le-refl, add-sub-cancel, suc-inj}
+use native.Mathlib.Nat.{not-suc-le-zero, le-of-suc-le-suc, le-refl, add-sub-cancel, suc-inj, add-zero, zero-add, add-suc, suc-add}
 use native.Mathlib.Omega.{arith}
 use lib.ListN.{length, getD, take, drop, replicate, length-drop}
 use lib.Seq.{getD-drop, drop-drop}
@@ -30,6 +31,12 @@ iter-fold z f b [] = refl
 iter-fold z f b (x ∷ s) = iter-front (λ k a. f a (getD (x ∷ s) k z)) b (length s) ∙ iter-fold z f (f b x) s
 
 module _ {A : Type 0} where
+  -- m turns, then k more
+  pub iter-split : (f : ℕ → A → A) (a : A) (m k : ℕ) → iter f a (m + k) ≡ iter (λ j. f (m + j)) (iter f a m) k
+  unfolding iter
+  iter-split f a m zero = ap (iter f a) (add-zero m)
+  iter-split f a m (suc k) = ap (iter f a) (add-suc m k) ∙ ap (f (m + k)) (iter-split f a m k)
+
   pub iter-cong : (f g : ℕ → A → A) (a : A) (n : ℕ) → ((k : ℕ) (x : A) → k < n → f k x ≡ g k x) → iter f a n ≡ iter g a n
   unfolding iter
   iter-cong f g a zero h = refl
@@ -42,6 +49,22 @@ module _ {A : Type 0} where
   over-cong f g (x ∷ d) (suc n) h =
       ap (λ (y : A). y ∷ over n (λ k. f (suc k)) d) (h 0 x (omega arith))
       ∙ ap (λ (l : List A). g 0 x ∷ l) (over-cong (λ k. f (suc k)) (λ k. g (suc k)) d n (λ k y l. h (suc k) y (omega arith)))
+
+  pub overAt-cong : (b n : ℕ) (f g : ℕ → A → A) (d : List A) → ((k : ℕ) (x : A) → k < n → f k x ≡ g k x) → overAt b n f d ≡ overAt b n g d
+  unfolding overAt
+  overAt-cong zero n f g d h = over-cong f g d n h
+  overAt-cong (suc b) n f g [] h = refl
+  overAt-cong (suc b) n f g (x ∷ d) h = ap (λ (l : List A). x ∷ l) (overAt-cong b n f g d h)
+
+  pub over-split : (f : ℕ → A → A) (d : List A) (m k : ℕ) → over (m + k) f d ≡ overAt m k (λ j. f (m + j)) (over m f d)
+  unfolding over overAt
+  over-split f d zero k = ap (λ (n : ℕ). over n f d) (zero-add k) ∙ over-cong f (λ j. f (0 + j)) d k (λ j x l. ap (λ (n : ℕ). f n x) (sym (zero-add j)))
+  over-split f [] (suc m) k = ap (λ (n : ℕ). over n f []) (suc-add m k)
+  over-split f (x ∷ d) (suc m) k =
+      ap (λ (n : ℕ). over n f (x ∷ d)) (suc-add m k)
+      ∙ ap (λ (l : List A). f 0 x ∷ l)
+      (over-split (λ j. f (suc j)) d m k
+      ∙ overAt-cong m k (λ j. f (suc (m + j))) (λ j. f (suc m + j)) (over m (λ j. f (suc j)) d) (λ j y l. ap (λ (n : ℕ). f n y) (sym (suc-add m j))))
 
   pub over-over : (f g : ℕ → A → A) (d : List A) (n : ℕ) → over n g (over n f d) ≡ over n (λ k x. g k (f k x)) d
   unfolding over

@@ -1,0 +1,6 @@
+pub mod State
+pub mod Ring
+pub mod Sample
+pub mod Pairs
+pub mod Calls
+pub mod Peak
