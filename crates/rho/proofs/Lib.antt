@@ -5,3 +5,8 @@ pub mod Accepted
 pub mod Going
 pub mod Greatest
 pub mod Lanes
+pub mod Counts
+pub mod Cut
+pub mod Silence
+pub mod Freeze
+pub mod Marked

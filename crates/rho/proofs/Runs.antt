@@ -2,7 +2,7 @@
 --     slot-newer, slot-older     where lag k stands: in the first run at pos - k, in the second at the top less what it has passed
 --     two-runs, two-overs        a loop over all lags, and a list changed at all lags, by the two runs
 --     estimate-runs, energy-runs, updated-runs, sound-runs     the sums, the updated weights, and whether all of them are finite
-use mathlib.Core.Path.{_≡_, refl, sym, ap, _∙_, subst}
+use mathlib.Core.Path.{_≡_, refl, sym, ap, _∙_}
 use mathlib.Core.Bool.{Bool, true, false, _&&_}
 use mathlib.Core.List.{List}
 use Prim.Native.Nat.{ℕ, zero, suc, _+_, _-_, _≤_, _<_}

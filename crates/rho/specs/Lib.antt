@@ -4,3 +4,5 @@ pub mod Sample
 pub mod Pairs
 pub mod Calls
 pub mod Peak
+pub mod Stream
+pub mod Marked

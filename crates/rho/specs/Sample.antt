@@ -1,6 +1,6 @@
 -- The Rho sample, as `step` in rho.rs, one definition a step and in its order. Definitions only.
 use Prim.Native.Nat.{ℕ, _+_, _-_, _^_}
-use mathlib.Core.Bool.{Bool, true, false, _&&_}
+use mathlib.Core.Bool.{Bool, true, _&&_}
 use mathlib.Core.List.{List}
 use lib.Dec.{eqb, ltb}
 use lib.Ieee.{Float, nan, binary32, binary64, add, sub, mul, div, lt, ofBits}

@@ -1,6 +1,5 @@
 -- Settings, and the states of creation and reset. Definitions only.
 use Prim.Native.Nat.{ℕ, _-_, _*_, _/_}
-use mathlib.Core.Bool.{true, false}
 use lib.Dec.{ltb}
 use lib.Ieee.{binary64, ofBits}
 use Rattle.laws.specs.Choice.{pick}

@@ -1,10 +1,8 @@
-use mathlib.Core.Path.{refl, sym, _∙_, ap}
-use native.Mathlib.Omega.{arith}
+use mathlib.Core.Path.{refl, sym, _∙_}
 use borrow.Author.Needs.{needs}
 use borrow.Author.Tests.{eq-eqb, ne-eqb}
 use Rattle.laws.specs.Choice.{pick-yes, pick-no}
 use Rattle.rho.specs.Calls.{processOf}
-use Rattle.rho.specs.Sample.{Engine}
 use Rattle.rho.proofs.Accepted.{accepted-pairs}
 use Rattle.rho.proofs.calls.process.Statement.{statement}
 use Rattle.rho.proofs.calls.process.Tie as tie

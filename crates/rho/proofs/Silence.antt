@@ -1,0 +1,240 @@
+-- While the far end makes no sound, near is delivered as it is. Assumes nothing.
+--     still-minus, still-nan, still-inf, minus-read     which far samples are no sound, and that a near -0.0 stays -0.0
+--     quiet-created, quiet-reset     creation and reset, accepted, leave an engine that has heard no far sound
+--     pair-passes          a pair with a still far sample: near is delivered bit for bit, and the engine has still heard nothing
+--     passes               a stream with still far samples: near is delivered, every sample of it
+--     passes-first         whatever pairs come behind it, its samples are delivered so
+--     row-passes, row-passes-first     the same two of a row of accepted calls
+--     created-passes       so from creation up to the first far sound, however the stream is cut
+use mathlib.Core.Path.{_≡_, refl, sym, ap, _∙_, subst}
+use mathlib.Core.Bool.{Bool, true}
+use mathlib.Core.List.{List, [], _∷_, _++_, map}
+use mathlib.Core.Logic.{inl, inr}
+use Prim.Native.Nat.{ℕ, zero, suc, _+_, _-_, _<_}
+use native.Mathlib.Nat.{eq-or-lt-of-le, le-of-suc-le-suc}
+use native.Mathlib.Omega.{arith}
+use borrow.Author.Tests.{leb-false}
+use lib.Dec.{eqb, leb}
+use lib.Ieee.{Float, nan, inf, binary32, binary64, add, sub, mul, eq, ofBits}
+use lib.Ieee.Fits.{fits-widens}
+use lib.ListN.{length, getD, take, replicate, length-set, length-replicate, length-map}
+use lib.Seq.{take-at}
+use Rattle.laws.specs.Choice.{pick, pick-if}
+use Rattle.laws.specs.Loops.{iter, length-over}
+use Rattle.laws.specs.Kinds.{All, all-get, all-set, all-replicate, all-over-to, all-places, iter-keeps}
+use Rattle.numbers.specs.Finite.{plus, isFinite, finiteOrZero}
+use Rattle.numbers.specs.Narrowing.{narrowOf}
+use Rattle.numbers.specs.Zeros.{Zero, Plus, Blank}
+use Rattle.numbers.proofs.Zeros.{pluses, plus-zero, zero-finite, zero-faint, zero-of-eq, plus-blank, plus-faint, faint-mul-right, faint-narrow, finite-true}
+use Rattle.numbers.proofs.Clean.{clean-finite, clean-same, clean-fits}
+use Rattle.numbers.proofs.Values.{sub-zero}
+use Rattle.numbers.proofs.Narrowed.{narrow-exact}
+use Rattle.rho.specs.State.{tapsOf, hangoverOf}
+use Rattle.rho.specs.Ring.{slotOf, lagOf, estimateOf}
+use Rattle.rho.specs.Sample.{Engine, Adapted, nudgeOf, updatedOf, soundOf, clearedOf, adaptedOf, afterOf, stepOf}
+use Rattle.rho.specs.Pairs.{pairsOf}
+use Rattle.rho.specs.Calls.{begunOf, createOf, resetOf}
+use Rattle.rho.specs.Stream.{begunBy, Part, nearOf, farOf, rowOf, AllAccepted, Fits, Still, Kept, Quiet, takenBy, placeOf, heardOf, errorAt}
+use Rattle.rho.proofs.Going.{next-small}
+use Rattle.rho.proofs.Accepted.{accepted-state, taps-some}
+use Rattle.rho.proofs.Counts.{create-began, reset-answers, reset-began}
+use Rattle.rho.proofs.Accepted.{both}
+use Rattle.rho.proofs.Cut.{cut, row-runs, row-level}
+
+-- ---- what is no sound, and what passes
+
+-- -0.0
+abbrev pub minus : Float
+minus = ofBits binary32 0x8000_0000
+
+-- -0.0, NaN and the infinities are still.
+pub still-minus : Still minus
+unfolding ofBits finiteOrZero isFinite pick eq
+still-minus = record { still = refl }
+
+pub still-nan : Still nan
+unfolding finiteOrZero isFinite pick eq
+still-nan = record { still = refl }
+
+pub still-inf : (s : Bool) → Still (inf s)
+unfolding finiteOrZero isFinite pick eq
+still-inf s = record { still = refl }
+
+-- A near sample -0.0 is read as -0.0.
+pub minus-read : finiteOrZero minus ≡ minus
+unfolding ofBits finiteOrZero isFinite pick
+minus-read = refl
+
+-- ---- small things
+
+-- +0.0 is one
+plus-plus : Plus plus
+plus-plus = record { is = refl }
+
+-- +0.0 n times
+plus-kept : (n : ℕ) → Kept Plus n (replicate n plus)
+plus-kept n = record { long = length-replicate n plus; all = all-replicate n plus plus-plus }
+
+zero-kept : (n : ℕ) → Kept Zero n (replicate n plus)
+zero-kept n = record { long = length-replicate n plus; all = all-replicate n plus (plus-zero plus-plus) }
+
+-- a lag's place is one of the ring's
+slot-small : (pos n k : ℕ) → pos < n → k < n → slotOf pos n k < n
+unfolding slotOf
+slot-small pos n k p l = pick-if (λ (x : ℕ). x < n) (leb k pos) (λ _. omega arith) (λ h. older (leb-false k pos h))
+  where
+    older : pos < k → pos + n - k < n
+    older h = omega arith
+
+-- so the far sample of any lag is a zero
+lag-zero : {h : List Float} (pos n k : ℕ) → pos < n → k < n → Kept Zero n h → Zero (lagOf h pos n k)
+lag-zero {h} pos n k p l H = all-get (slotOf pos n k) nan (H .all) (let s = slot-small pos n k p l in omega (arith, H .long))
+
+-- ---- creation and reset
+
+-- the fresh state, with cleared buffers
+begun-quiet : (taps hangover resets : ℕ) → 0 < taps → Quiet (begunBy (begunOf taps hangover resets))
+begun-quiet taps hangover resets h = record { ring = omega arith; weights = plus-kept taps; history = zero-kept taps }
+
+-- An accepted creation leaves an engine that has heard no far sound,
+pub quiet-created : (rate tail : ℕ) (weights history : List Float) → createOf rate tail weights history .answer .refusal ≡ 0 → Quiet (begunBy (createOf rate tail weights history))
+quiet-created rate tail weights history h = rw (create-began rate tail weights history h) (begun-quiet (tapsOf rate tail) (hangoverOf rate) 0 (taps-some rate tail))
+
+-- and so does an accepted reset.
+pub quiet-reset : (e : Engine) → resetOf e .answer .refusal ≡ 0 → Quiet (begunBy (resetOf e))
+quiet-reset e h =
+    let s = e .state in
+    let a = accepted-state s (length (e .weights)) (length (e .history)) (sym (reset-answers e) ∙ h) .ranged in
+    rw (reset-began e h) (begun-quiet (s .taps) (s .«hangover_samples») (s .«divergence_resets») (a .some))
+
+-- ---- the estimate and the update of weights +0.0 over a history of zeros
+
+-- the estimate is +0.0
+estimate-plus : {w h : List Float} (pos n : ℕ) → pos < n → Kept Plus n w → Kept Zero n h → Plus (estimateOf w h pos n)
+unfolding estimateOf
+estimate-plus {w} {h} pos n b W H =
+    iter-keeps Plus (λ k a. add binary64 a (mul binary64 (getD w k nan) (lagOf h pos n k))) plus n plus-plus
+    (λ k a i p.
+    let w1 : Plus (getD w k nan) = all-get k nan (W .all) (omega (arith, W .long)) in
+    let x1 : Zero (lagOf h pos n k) = lag-zero pos n k b i H in
+    search (pluses, zero-finite))
+
+-- each updated weight is +0.0, unless the scale made it a NaN
+updated-blank : {w h : List Float} (scale : Float) (pos n : ℕ) → pos < n → Kept Plus n w → Kept Zero n h → Kept Blank n (updatedOf scale h pos n w)
+unfolding updatedOf nudgeOf
+updated-blank {w} {h} scale pos n b W H =
+    let f : ℕ → Float → Float = λ k x. add binary32 x (narrowOf (mul binary64 scale (lagOf h pos n k))) in
+    record {
+      long = length-over n f w ∙ W .long;
+      all = all-over-to n f (λ x p. plus-blank p) (W .all) (λ k x i p. plus-faint binary32 p (faint-narrow (faint-mul-right binary64 scale (zero-faint (lag-zero pos n k b i H)))));
+    }
+
+-- what is sound is finite at each place
+sound-at : (n : ℕ) (l : List Float) → soundOf n l ≡ true → (k : ℕ) → k < n → isFinite (getD l k nan) ≡ true
+unfolding soundOf iter
+sound-at zero l h k b = absurd (omega arith)
+sound-at (suc n) l h k b =
+    let t = soundOf n l in
+    elim (eq-or-lt-of-le (le-of-suc-le-suc b)) [
+      | inl e ↦ ap (λ (j : ℕ). isFinite (getD l j nan)) e ∙ both t (isFinite (getD l n nan)) h .1
+      | inr i ↦ sound-at n l (both t (isFinite (getD l n nan)) h .0) k i
+    ]
+
+-- so blank weights that are sound are +0.0
+sound-plus : {n : ℕ} {l : List Float} → Kept Blank n l → soundOf n l ≡ true → Kept Plus n l
+sound-plus {n} {l} h f =
+    record {
+      long = h .long;
+      all = all-places Plus nan l (λ i b. record { is = all-get i nan (h .all) b .clear (sound-at n l f i (omega (arith, h .long))) });
+    }
+
+-- whatever the error and the freeze, the weights are +0.0 after the pair
+adapted-plus : {w h : List Float} (fine : Bool) (freeze : ℕ) (scale : Float) (pos n resets : ℕ) → pos < n → Kept Plus n w → Kept Zero n h
+    → Kept Plus n (adaptedOf fine freeze scale h pos n w resets .weights)
+unfolding adaptedOf clearedOf
+adapted-plus fine freeze scale pos n resets b W H =
+    let Q : Adapted → Type 0 = λ a. Kept Plus n (a .weights) in
+    pick-if Q fine
+    (λ _. pick-if Q (eqb freeze 0) (λ _. pick-if Q _ (λ s. sound-plus (updated-blank scale pos n b W H) s) (λ _. plus-kept n)) (λ _. W))
+    (λ _. plus-kept n)
+
+-- ---- one pair
+
+module _ {e : Engine} {x y : Float} (Q : Quiet e) (F : Fits x) (S : Still y) where
+  -- its place is one of the ring's
+  placed : placeOf e < e .state .taps
+  placed = next-small (e .state .pos) (e .state .taps) (Q .ring)
+
+  -- its far sample goes in as a zero
+  heard-zero : Kept Zero (e .state .taps) (heardOf e y)
+  heard-zero =
+      record {
+        long = length-set (e .history) (placeOf e) (finiteOrZero y) ∙ Q .history .long;
+        all = all-set (placeOf e) (Q .history .all) (zero-of-eq (finiteOrZero y) (S .still));
+      }
+
+  -- its error is near, and so is that narrowed
+  error-near : narrowOf (errorAt e x y) ≡ finiteOrZero x
+  unfolding errorAt
+  error-near =
+      let f = clean-fits binary32 x (F .fit) in
+      ap (λ (z : Float). narrowOf (sub binary64 (finiteOrZero x) z)) (estimate-plus (placeOf e) (e .state .taps) placed (Q .weights) heard-zero .is)
+      ∙ ap narrowOf (sub-zero binary64 (finiteOrZero x) (fits-widens (finiteOrZero x) f))
+      ∙ narrow-exact (finiteOrZero x) f
+
+  -- it delivers near as it is
+  pair-output : takenBy e x y .output ≡ finiteOrZero x
+  unfolding stepOf errorAt
+  pair-output = ap finiteOrZero error-near ∙ clean-same (finiteOrZero x) (finite-true (clean-finite x))
+
+  -- it leaves an engine that has heard nothing
+  pair-quiet : Quiet (takenBy e x y .engine)
+  unfolding stepOf afterOf
+  pair-quiet = record { ring = placed; weights = adapted-plus _ _ _ (placeOf e) (e .state .taps) _ placed (Q .weights) heard-zero; history = heard-zero }
+
+  -- A pair with a still far sample: near is delivered bit for bit, -0.0 as -0.0, and the engine has still heard nothing.
+  pub pair-passes : (takenBy e x y .output ≡ finiteOrZero x) × Quiet (takenBy e x y .engine)
+  pair-passes = (pair-output, pair-quiet)
+
+-- ---- streams
+
+-- A stream with still far samples: near is delivered, sample by sample, and the engine has still heard nothing.
+pub passes : (e : Engine) (near far : List Float) → length near ≡ length far → Quiet e → All Fits near → All Still far
+    → (pairsOf e near far .samples ≡ map finiteOrZero near) × Quiet (pairsOf e near far .engine)
+unfolding pairsOf
+passes e [] far h q n f = (refl, q)
+passes e (x ∷ near) [] h q n f = absurd (omega arith)
+passes e (x ∷ near) (y ∷ far) h q n f =
+    let p = pair-passes q (n .each .0) (f .each .0) in
+    let r = passes (takenBy e x y .engine) near far (omega arith) (p .1) (record { each = n .each .1 }) (record { each = f .each .1 }) in
+    (ap (λ (o : Float). o ∷ pairsOf (takenBy e x y .engine) near far .samples) (p .0) ∙ ap (λ (l : List Float). finiteOrZero x ∷ l) (r .0), r .1)
+
+-- Whatever pairs b and d come behind such a stream, its samples are delivered so.
+pub passes-first : (e : Engine) (a b c d : List Float) → length a ≡ length c → Quiet e → All Fits a → All Still c
+    → take (length a) (pairsOf e (a ++ b) (c ++ d) .samples) ≡ map finiteOrZero a
+passes-first e a b c d h q n f =
+    let p = passes e a c h q n f .0 in
+    let k = cut e a b c d h in
+    rw (k, p) (take-at (map finiteOrZero a) _ (length a) (length-map a finiteOrZero))
+
+-- ---- calls
+
+-- A row of accepted calls with still far samples delivers near, and leaves an engine that has heard nothing.
+pub row-passes : (e : Engine) (ps : List Part) → AllAccepted e ps → Quiet e → All Fits (nearOf ps) → All Still (farOf ps)
+    → (rowOf e ps .samples ≡ map finiteOrZero (nearOf ps)) × Quiet (rowOf e ps .engine)
+row-passes e ps h q n f =
+    let p = passes e (nearOf ps) (farOf ps) (row-level e ps h) q n f in
+    let r = row-runs e ps h in
+    (r .samples ∙ p .0, subst Quiet (sym (r .engine)) (p .1))
+
+-- A row of accepted calls whose far samples are still up to some pair, wherever that lies in the calls: so far it delivers near.
+pub row-passes-first : (e : Engine) (ps : List Part) (a b c d : List Float) → AllAccepted e ps → nearOf ps ≡ a ++ b → farOf ps ≡ c ++ d → length a ≡ length c
+    → Quiet e → All Fits a → All Still c → take (length a) (rowOf e ps .samples) ≡ map finiteOrZero a
+row-passes-first e ps a b c d h n f l q A C = rw (row-runs e ps h .samples, n, f) (passes-first e a b c d l q A C)
+
+-- From an accepted creation on: up to the first far sound near is delivered, however the stream is cut into calls.
+pub created-passes : (rate tail : ℕ) (weights history : List Float) (ps : List Part) (a b c d : List Float) → createOf rate tail weights history .answer .refusal ≡ 0
+    → AllAccepted (begunBy (createOf rate tail weights history)) ps → nearOf ps ≡ a ++ b → farOf ps ≡ c ++ d → length a ≡ length c → All Fits a → All Still c
+    → take (length a) (rowOf (begunBy (createOf rate tail weights history)) ps .samples) ≡ map finiteOrZero a
+created-passes rate tail weights history ps a b c d r h n f l A C =
+    row-passes-first (begunBy (createOf rate tail weights history)) ps a b c d h n f l (quiet-created rate tail weights history r) A C

@@ -1,0 +1,178 @@
+-- What the theorems on streams speak of: a stream cut into calls, far silence, and quiet pairs in a row. Definitions only, and no
+-- contract cites them.
+use mathlib.Core.Path.{_≡_}
+use mathlib.Core.Bool.{Bool, true, false}
+use mathlib.Core.List.{List, [], _∷_, _++_}
+use Prim.Native.Nat.{ℕ, _≤_, _<_}
+use lib.Dec.{T}
+use lib.Ieee.{Float, binary32, binary64, sub, eq, fits}
+use lib.ListN.{length, set, take}
+use Rattle.laws.specs.Choice.{pick}
+use Rattle.laws.specs.Kinds.{All}
+use Rattle.numbers.specs.Finite.{plus, isFinite, finiteOrZero}
+use Rattle.numbers.specs.Narrowing.{narrowOf}
+use Rattle.numbers.specs.Zeros.{Zero, Plus}
+use Rattle.rho.specs.Ring.{nextOf, estimateOf, energyOf, peakOf}
+use Rattle.rho.specs.Sample.{Engine, Adapted, Stepped, loudOf, scaleOf, updatedOf, soundOf, clearedOf, stepOf}
+use Rattle.rho.specs.Pairs.{Run, pairsOf}
+use Rattle.rho.specs.Calls.{stateRefusal, processRefusal, Begun, Called, processOf}
+
+-- ---- calls
+
+-- the state and the two buffers that creation or reset leaves, and that process or flush leaves
+abbrev pub begunBy : Begun → Engine
+begunBy b = record { state = b .answer .state; weights = b .weights; history = b .history }
+
+abbrev pub leftBy : Called → Engine
+leftBy c = record { state = c .answer .state; weights = c .weights; history = c .history }
+
+-- the samples that a call delivered
+abbrev pub deliveredBy : Called → List Float
+deliveredBy c = take (c .answer .delivered) (c .out)
+
+-- the number of a reset's and of a flush's refusal, and of a process's
+abbrev pub stateNumber : Engine → ℕ
+stateNumber e = stateRefusal (e .state) (length (e .weights)) (length (e .history))
+
+abbrev pub processNumber : Engine → List Float → List Float → List Float → ℕ
+processNumber e near far out = processRefusal (e .state) (length (e .weights)) (length (e .history)) (length near) (length far) (length out)
+
+-- ---- a stream cut into parts
+
+-- a part of a stream, and the output buffer that is lent for it
+pub record Part : Type 0 where
+  pub near : List Float
+  pub far : List Float
+  pub out : List Float
+
+-- as many near samples as far samples
+pub record Level (p : Part) : Type 0 where
+  pub level : length (p .near) ≡ length (p .far)
+
+-- an output buffer that holds the part's samples
+pub record Room (p : Part) : Type 0 where
+  pub room : length (p .near) ≤ length (p .out)
+
+-- the whole stream's near samples, and its far samples
+unfoldable pub nearOf : List Part → List Float
+nearOf [] = []
+nearOf (p ∷ ps) = p .near ++ nearOf ps
+
+unfoldable pub farOf : List Part → List Float
+farOf [] = []
+farOf (p ∷ ps) = p .far ++ farOf ps
+
+-- A run over a and c, and from where it ended one over b and d: the last engine, and the samples of both.
+abbrev pub thenOf : Engine → List Float → List Float → List Float → List Float → Run
+thenOf e a c b d =
+    let first = pairsOf e a c in
+    let second = pairsOf (first .engine) b d in
+    record { engine = second .engine; samples = first .samples ++ second .samples }
+
+-- the parts run one after the other, each from where the one before it ended
+unfoldable pub partsOf : Engine → List Part → Run
+partsOf e [] = record { engine = e; samples = [] }
+partsOf e (p ∷ ps) =
+    let run = pairsOf e (p .near) (p .far) in
+    let rest = partsOf (run .engine) ps in
+    record { engine = rest .engine; samples = run .samples ++ rest .samples }
+
+-- what a row of calls leaves: the state and the buffers after the last, all delivered samples joined, and each call's refusal
+pub record Row : Type 0 where
+  pub engine : Engine
+  pub samples : List Float
+  pub refusals : List ℕ
+
+-- the parts processed one after the other, each call on the state and the buffers that the one before it left
+unfoldable pub rowOf : Engine → List Part → Row
+rowOf e [] = record { engine = e; samples = []; refusals = [] }
+rowOf e (p ∷ ps) =
+    let call = processOf e (p .near) (p .far) (p .out) in
+    let rest = rowOf (leftBy call) ps in
+    record { engine = rest .engine; samples = deliveredBy call ++ rest .samples; refusals = call .answer .refusal ∷ rest .refusals }
+
+-- every call of the row is accepted
+abbrev pub AllAccepted : Engine → List Part → Type 0
+AllAccepted e ps = All (λ r. r ≡ 0) (rowOf e ps .refusals)
+
+-- ---- far silence
+
+-- an f32
+pub record Fits (x : Float) : Type 0 where
+  pub fit : T (fits binary32 x)
+
+-- no sound: what the sample is read as equals 0.0. So 0.0, -0.0, NaN and the infinities are still.
+pub record Still (y : Float) : Type 0 where
+  pub still : eq (finiteOrZero y) plus ≡ true
+
+-- n numbers, all of a kind
+pub record Kept (P : Float → Type 0) (n : ℕ) (l : List Float) : Type 0 where
+  pub long : length l ≡ n
+  pub all : All P l
+
+-- an engine that has heard no far sound: every weight is +0.0, and every far sample kept is a zero, of either sign
+pub record Quiet (e : Engine) : Type 0 where
+  pub ring : e .state .pos < e .state .taps
+  pub weights : Kept Plus (e .state .taps) (e .weights)
+  pub history : Kept Zero (e .state .taps) (e .history)
+
+-- ---- one pair, near x and far y, as an engine meets it: the names of what `stepOf` computes
+
+-- the pair taken, non-finite samples read as 0.0
+abbrev pub takenBy : Engine → Float → Float → Stepped
+takenBy e x y = stepOf e (finiteOrZero x) (finiteOrZero y)
+
+-- the place of its far sample, and the history with that put in
+abbrev pub placeOf : Engine → ℕ
+placeOf e = nextOf (e .state .pos) (e .state .taps)
+
+abbrev pub heardOf : Engine → Float → List Float
+heardOf e y = set (e .history) (placeOf e) (finiteOrZero y)
+
+-- the hangover count H, and what is left of the freeze
+abbrev pub hangover : Engine → ℕ
+hangover e = e .state .«hangover_samples»
+
+abbrev pub remaining : Engine → ℕ
+remaining e = e .state .«hangover_remaining»
+
+-- whether it is loud, "peak including the new far sample"
+unfoldable pub loudAt : Engine → Float → Float → Bool
+loudAt e x y = loudOf (finiteOrZero x) (peakOf (heardOf e y) (placeOf e) (e .state .taps))
+
+-- its error: near less the echo estimate
+unfoldable pub errorAt : Engine → Float → Float → Float
+errorAt e x y = sub binary64 (finiteOrZero x) (estimateOf (e .weights) (heardOf e y) (placeOf e) (e .state .taps))
+
+-- whether its output is finite; else it diverged
+abbrev pub fineAt : Engine → Float → Float → Bool
+fineAt e x y = isFinite (narrowOf (errorAt e x y))
+
+-- the weights after an update by it
+unfoldable pub updateAt : Engine → Float → Float → List Float
+updateAt e x y =
+    let n = e .state .taps in
+    let pos = placeOf e in
+    let history = heardOf e y in
+    updatedOf (scaleOf (errorAt e x y) (energyOf history pos n)) history pos n (e .weights)
+
+-- the weights and the count of resets after the pair
+abbrev pub keptBy : Engine → Float → Float → Adapted
+keptBy e x y = let after = takenBy e x y .engine in record { weights = after .weights; resets = after .state .«divergence_resets» }
+
+-- the same where the pair updates: the updated weights where all of them are finite, else +0.0 for each and a reset counted
+unfoldable pub updatedBy : Engine → Float → Float → Adapted
+updatedBy e x y =
+    let n = e .state .taps in
+    let resets = e .state .«divergence_resets» in
+    pick (soundOf n (updateAt e x y)) (record { weights = updateAt e x y; resets = resets }) (clearedOf n resets)
+
+-- for each pair in turn, whether it is loud for the engine that it meets
+unfoldable pub loudsOf : Engine → List Float → List Float → List Bool
+loudsOf e [] far = []
+loudsOf e (x ∷ near) [] = []
+loudsOf e (x ∷ near) (y ∷ far) = loudAt e x y ∷ loudsOf (takenBy e x y .engine) near far
+
+-- "quiet pairs in a row"
+abbrev pub AllQuiet : Engine → List Float → List Float → Type 0
+AllQuiet e near far = All (λ b. b ≡ false) (loudsOf e near far)
