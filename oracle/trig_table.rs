@@ -5,9 +5,9 @@
 //! with that text in ../shared:
 //!
 //!     sed -n -e '/^use std::f64::consts::PI;/p' -e '/^const /p' -e '/^fn det_sin/,/^}/p' -e '/^fn det_cos/,/^}/p' \
-//!         ../shared/src--src--fft.rs.txt >/tmp/trig_cut.rs
-//!     TRIG_CUT=/tmp/trig_cut.rs rustc --edition 2021 -O -o /tmp/trig_table oracle/trig_table.rs
-//!     /tmp/trig_table | diff - <(sed -n '/^const RECOMBINATION/,/^];/p' crates/trig/src/tables.rt)
+//!         ../shared/src--src--fft.rs.txt >target/trig_cut.rs
+//!     TRIG_CUT=../target/trig_cut.rs rustc --edition 2021 -O -o target/trig_table oracle/trig_table.rs
+//!     target/trig_table | diff - <(sed -n '/^const RECOMBINATION/,/^];/p' crates/trig/src/tables.rt)
 
 include!(env!("TRIG_CUT"));
 
