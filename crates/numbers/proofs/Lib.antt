@@ -1,4 +1,5 @@
 pub mod Rounding
+pub mod Straight
 pub mod Tests
 pub mod Values
 pub mod Narrowed

@@ -2,6 +2,7 @@
 // of IEEE 754 (lib.Ieee). No public function has a `requires`. A name without a width is of `f64`.
 mod bits;
 mod finite;
+mod narrow_list;
 mod narrowing;
 mod order;
 
@@ -12,6 +13,7 @@ pub use bits::to_bits32;
 pub use finite::finite_or_zero;
 pub use finite::is_finite;
 pub use finite::is_finite32;
+pub use narrow_list::narrow_into;
 pub use narrowing::narrow;
 pub use narrowing::narrow_bits;
 pub use narrowing::widen;

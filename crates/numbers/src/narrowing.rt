@@ -60,8 +60,8 @@ fn magnitude(exponent: u64, digits: u64) -> u64
 
 // m / 2^29 to the nearest whole number, and at a tie to the even one. No branch: on sound, which way
 // it rounds is a coin's throw, and a processor that guesses wrong half the time takes three times as long.
-fn drop_low(m: u64) -> u64
-    requires { ⌜ m < 2 ^ 53 ⌝ }
+pub(crate) fn drop_low(m: u64) -> u64
+    requires { ⌜ m < 2 ^ 63 ⌝ }
     ensures { λ r. ⌜ r ≡ closest m (2 ^ 29) ⌝ }
 {
     (m + 0xfff_ffff + m / 0x2000_0000 % 2) / 0x2000_0000

@@ -1,33 +1,17 @@
 use mathlib.Core.Path.{_≡_, _∙_}
-use Prim.Native.Nat.{_-_, _≤_}
 use native.Mathlib.Omega.{arith}
 use borrow.Author.Needs.{needs}
-use lib.ListN.{length, getD, length-set}
+use lib.ListN.{length}
 use lib.Ieee.{nan}
-use Rattle.laws.specs.Loops.{over, over-none, over-turn}
 use Rattle.laws.specs.Readings.{over-mapped}
 use Rattle.numbers.specs.Narrowing.{narrowOf}
 use Rattle.fft.proofs.real_fft.unpack.Statement.{statement}
 use Rattle.fft.proofs.real_fft.unpack.Tie as tie
 
-abbrev Inv-loop : tie.InvT-loop
-Inv-loop points out₀ i₀ out i = (length out ≡ 512) × (i ≤ 512) × (out ≡ over i (λ k x. narrowOf (getD points k nan)) out₀)
-
-abbrev μ-loop : tie.MeasureT-loop
-μ-loop points out₀ i₀ out i = 512 - i
-
 pub unpack-spec : {M : Type 1} → statement M
 unpack-spec =
     tie.close
-    (tie.spec Inv-loop μ-loop
-    (λ c. (omega arith, omega arith, over-none _ _))
-    (λ c. search needs)
-    (λ c. search needs)
+    (tie.spec
     (λ c κs. search needs)
     (λ c. search needs)
-    (λ c. search needs)
-    (λ c. search needs)
-    (λ c. search needs)
-    (λ c. let at = c .before .before .before .loop in (simp length-set (at .inv .0), omega arith, over-turn _ _ _ (at .inv .2) (rw (c .narrow .ensures))))
-    (λ c. omega arith)
-    (λ c. let a = c .before .before .before .before .args in let e : c .before .loop .i ≡ length (a .out .now) = omega arith in (rw e at (c .before .loop .inv .2)) ∙ over-mapped nan narrowOf (a .points .now) (a .out .now) (omega arith)))
+    (λ c. let a = c .before .before .before .before .before .before .args in let e : length (a .points .now) ≡ length (a .out .now) = omega arith in (rw e at (c .before .before .narrow-into .ensures)) ∙ over-mapped nan narrowOf (a .points .now) (a .out .now) e))

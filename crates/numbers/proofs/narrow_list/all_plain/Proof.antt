@@ -1,0 +1,34 @@
+-- `numbers::all_plain` meets its contract: while the flag stands, every pattern passed is plain. Assumes nothing.
+use mathlib.Core.Path.{_≡_, refl, sym}
+use mathlib.Core.Bool.{Bool, true, false, _&&_, true≢false}
+use Prim.Native.Nat.{ℕ, _-_, _≤_, _<_}
+use native.Mathlib.Omega.{arith}
+use borrow.Author.Count.{below-more}
+use borrow.Author.Needs.{needs}
+use lib.ListN.{getD}
+use Rattle.numbers.specs.Narrowing.{Plain}
+use Rattle.numbers.proofs.narrow_list.all_plain.Statement.{statement}
+use Rattle.numbers.proofs.narrow_list.all_plain.Tie as tie
+
+both : (a b : Bool) → (a && b) ≡ true → (a ≡ true) × (b ≡ true)
+both true b h = (refl, h)
+both false b h = absurd (true≢false (sym h))
+
+abbrev Inv-loop : tie.InvT-loop
+Inv-loop b plain₀ k₀ plain k = (k ≤ 16) × (plain ≡ true → (j : ℕ) → j < k → Plain (getD b j 0))
+
+abbrev μ-loop : tie.MeasureT-loop
+μ-loop b plain₀ k₀ plain k = 16 - k
+
+pub all-plain-spec : {M : Type 1} → statement M
+all-plain-spec =
+    tie.close
+    (tie.spec Inv-loop μ-loop
+    (λ c. search needs)
+    (λ c. search needs)
+    (λ c. search needs)
+    (λ c κs. search needs)
+    (λ c. search needs)
+    (λ c. search needs)
+    (λ c. let at = c .before .before .before .loop in (omega arith, λ h. let q = both (at .plain) (c .is-plain .result) h in below-more _ _ (at .inv .1 (q .0)) (c .is-plain .ensures (q .1))))
+    (λ c h k l. c .before .loop .inv .1 h k (omega arith)))
