@@ -2,17 +2,26 @@
 //!
 //! A round makes new numbers for eight calls and times each side on its own copy of them, the two going
 //! first in turn: numbers that come again would teach the processor where each branch goes. A time is the
-//! median of all rounds, for one call. A batch of a hundred rounds has a ratio, that of its own medians, and
-//! of these the table has the median, the 10th and the 90th percentile.
+//! median of all rounds, for one call, or for one pair of the several in a call. A batch of a hundred rounds
+//! has a ratio, that of its own medians, and of these the table has the median, the 10th and the 90th
+//! percentile.
 
+#[allow(dead_code)] // the Rust's text, whole
+mod canceller;
+mod error;
 mod fft;
 mod host;
 mod inputs;
 mod reference;
+mod rho_calls;
+mod rho_host;
+mod rust_rho;
 
+use canceller::EchoCanceller;
 use fft::{Complex, ComplexFft, RealFft};
-use inputs::{turned, Noise};
+use inputs::{turned, Noise, DIGITS32, SIGN32, SIZES32};
 use reference::{complexes, numbers, POINTS, SAMPLES, SPECTRUM};
+use rust_rho::RhoCanceller;
 use std::array::from_fn;
 use std::hint::black_box;
 use std::time::Instant;
@@ -21,6 +30,9 @@ const CALLS: usize = 8;
 const ROUNDS: usize = 100;
 const BATCHES: usize = 100;
 
+/// Of Rho in a call.
+const PAIRS: usize = 16;
+
 fn main() {
     println!("| | Rust, ns | Rattle, ns | ratio | its 10th to 90th percentile |");
     println!("|---|---|---|---|---|");
@@ -28,6 +40,11 @@ fn main() {
     inverse();
     complex_forward();
     narrow();
+    for tail in [64, 200] {
+        let taps = 16 * tail;
+        rho(&format!("Rho, {taps} taps, updating"), tail, 0x7c << 23);
+        rho(&format!("Rho, {taps} taps, frozen"), tail, 0x82 << 23);
+    }
 }
 
 /// Sound from another seed at each call.
@@ -46,6 +63,7 @@ fn forward() {
     let mut out = [0.0; SPECTRUM];
     race(
         "forward, 512 samples",
+        1,
         || {
             let mut sound = sounds();
             from_fn(|_| sound.number() as f32)
@@ -70,6 +88,7 @@ fn inverse() {
     let mut out = [0.0; SAMPLES];
     race(
         "inverse, 257 bins",
+        1,
         || {
             let mut sound = sounds();
             let input: [f32; SAMPLES] = from_fn(|_| sound.number() as f32);
@@ -94,6 +113,7 @@ fn complex_forward() {
     let fft = ComplexFft::new(POINTS / 2);
     race(
         "complex forward, 256 points",
+        1,
         || {
             let mut sound = sounds();
             let flat: Vec<f64> = (0..POINTS).map(|_| sound.number()).collect();
@@ -115,6 +135,7 @@ fn narrow() {
     let mut sounds = sounds();
     race(
         "narrow, 512 numbers",
+        1,
         || {
             let mut sound = sounds();
             (from_fn(|_| sound.number()), [0.0; SAMPLES])
@@ -134,9 +155,48 @@ fn narrow() {
     );
 }
 
-/// One line of the table.
+/// A pair at 16 kHz, of a stream that goes on. Far is sound. Near is of one size: below half the peak of far, so
+/// that each pair updates the filter, or above it, so that each is frozen.
+fn rho(name: &str, tail: u16, size: u64) {
+    let mut sounds = sounds();
+    let mut samples = move |base, mask| -> [f32; PAIRS] {
+        let word = sounds().word;
+        let mut noise = Noise { word, base, mask };
+        from_fn(|_| noise.sample())
+    };
+    let mut pairs = move || {
+        let near = samples(size, SIGN32 | DIGITS32);
+        let far = samples(0x7f << 23, SIGN32 | SIZES32 | DIGITS32);
+        (near, far)
+    };
+    let mut engine = RhoCanceller::new(16_000, tail);
+    let mut state = engine.read_state();
+    let mut weights = engine.read_weights().to_vec();
+    let mut history = engine.read_history().to_vec();
+    let mut samples = Vec::new();
+    let mut out = [0.0; PAIRS];
+    let mut rust = |(near, far): &mut ([f32; PAIRS], [f32; PAIRS])| {
+        samples.clear();
+        let Ok(()) = engine.process(near, far, &mut samples);
+        black_box(&samples);
+    };
+    let mut port = |(near, far): &mut ([f32; PAIRS], [f32; PAIRS])| {
+        state = rho_host::process(state, &mut weights, &mut history, near, far, &mut out).state;
+        black_box(&out);
+    };
+    // until the history is full, and the freeze over that its first samples may bring
+    for _ in 0..512 {
+        let mut input = pairs();
+        rust(&mut input);
+        port(&mut input);
+    }
+    race(name, PAIRS, pairs, rust, port);
+}
+
+/// One line of the table: times of a call, divided by how many things it does.
 fn race<T: Clone>(
     name: &str,
+    things: usize,
     mut make: impl FnMut() -> T,
     mut rust: impl FnMut(&mut T),
     mut port: impl FnMut(&mut T),
@@ -159,7 +219,7 @@ fn race<T: Clone>(
         rusts.extend(a);
         ports.extend(b);
     }
-    let (rust, port) = (percentile(&mut rusts, 50), percentile(&mut ports, 50));
+    let [rust, port] = [rusts, ports].map(|mut times| percentile(&mut times, 50) / things as f64);
     let [low, ratio, high] = [10, 50, 90].map(|p| percentile(&mut ratios, p));
     println!("| {name} | {rust:.0} | {port:.0} | {ratio:.2} | {low:.2} to {high:.2} |");
 }

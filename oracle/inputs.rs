@@ -8,6 +8,11 @@ pub const DIGITS: u64 = (1 << 52) - 1;
 /// The low bits of the exponent's field: sixteen sizes, each twice the one before.
 pub const SIZES: u64 = 0xf << 52;
 
+/// The same of f32s.
+pub const SIGN32: u64 = 1 << 31;
+pub const DIGITS32: u64 = (1 << 23) - 1;
+pub const SIZES32: u64 = 0xf << 23;
+
 /// Bit patterns, `base ^ (word & mask)`, the words coming one from the other.
 pub struct Noise {
     pub word: u64,
@@ -37,6 +42,25 @@ impl Noise {
     }
 }
 
+/// Words for whatever is chosen at random, the same at each run.
+pub struct Random(pub u64);
+
+impl Random {
+    pub fn word(&mut self) -> u64 {
+        self.0 = turned(self.0);
+        self.0
+    }
+
+    /// Below `n`.
+    pub fn below(&mut self, n: usize) -> usize {
+        ((self.word() >> 11) % n as u64) as usize
+    }
+
+    pub fn one_of<T: Copy>(&mut self, some: &[T]) -> T {
+        some[self.below(some.len())]
+    }
+}
+
 /// The word after this one, by Marsaglia's xorshift. All words but 0 lie on one ring, and 0 stays.
 pub fn turned(word: u64) -> u64 {
     let a = word ^ word << 13;
@@ -48,6 +72,14 @@ pub fn turned(word: u64) -> u64 {
 pub fn bits(x: f64) -> u64 {
     if x.is_nan() {
         0x7ff8_0000_0000_0000
+    } else {
+        x.to_bits()
+    }
+}
+
+pub fn bits32(x: f32) -> u32 {
+    if x.is_nan() {
+        0x7fc0_0000
     } else {
         x.to_bits()
     }

@@ -4,10 +4,12 @@ mod fft;
 mod host;
 mod inputs;
 mod reference;
+mod tally;
 
-use inputs::{bits, turned, Noise, DIGITS, SIGN, SIZES};
+use inputs::{Noise, Random, DIGITS, DIGITS32, SIGN, SIGN32, SIZES, SIZES32};
 use reference::{Reference, POINTS, SAMPLES, SPECTRUM, WRONG_LENGTH};
 use std::array::from_fn;
+use tally::Tally;
 
 /// So many transforms of each kind of numbers.
 const ROUNDS: usize = 2_000;
@@ -23,10 +25,6 @@ enum Kind {
     /// A sine of any pitch.
     Tone,
 }
-
-const SIGN32: u64 = 1 << 31;
-const DIGITS32: u64 = (1 << 23) - 1;
-const SIZES32: u64 = 0xf << 23;
 
 const SILENCE: Kind = Kind::Bits([0, SIGN], [0, SIGN32]);
 const SOUND: Kind = Kind::Bits(
@@ -76,15 +74,7 @@ const STRANGE: [f64; 8] = [
     -0.0,
 ];
 
-/// Words for whatever is chosen at random, the same at each run.
-struct Random(u64);
-
 impl Random {
-    fn word(&mut self) -> u64 {
-        self.0 = turned(self.0);
-        self.0
-    }
-
     fn numbers<const N: usize>(&mut self, kind: Kind) -> [f64; N] {
         let word = self.word();
         match kind {
@@ -118,46 +108,6 @@ impl Random {
             return from_fn(|_| noise.sample());
         }
         self.numbers(kind).map(|x| x as f32)
-    }
-}
-
-/// What was compared under one name.
-#[derive(Default)]
-struct Tally {
-    numbers: u64,
-    nan: u64,
-    differ: u64,
-}
-
-impl Tally {
-    fn one(&mut self, port: f64, rust: f64) {
-        self.numbers += 1;
-        self.nan += u64::from(rust.is_nan());
-        self.differ += u64::from(bits(port) != bits(rust));
-    }
-
-    fn all(&mut self, port: &[f64], rust: &[f64]) {
-        port.iter().zip(rust).for_each(|(x, y)| self.one(*x, *y));
-    }
-
-    fn samples(&mut self, port: &[f32], rust: &[f32]) {
-        for (x, y) in port.iter().zip(rust) {
-            self.one((*x).into(), (*y).into());
-        }
-    }
-
-    /// An answer is no number, but it may differ.
-    fn answer(&mut self, port: u32, rust: u32) {
-        self.differ += u64::from(port != rust);
-    }
-
-    fn tell(&self, name: &str) {
-        let Tally {
-            numbers,
-            nan,
-            differ,
-        } = self;
-        println!("{name}: {numbers} numbers compared, {nan} of them NaN, {differ} differ");
     }
 }
 

@@ -5,12 +5,22 @@
 // Such a program fills a block of lines (`fill`) and goes from one to the `next`, in a loop that ends
 // where less than a line is `left`. It has a tally, to which each line is added, as a case that was
 // compared (`judge`) or as none (`refuse`), and it closes with its `verdict`.
+//
+// Where a case is about whole buffers, its fields have the recipe of what goes in (`noise`) and one number for what comes out (`hash_of`).
+mod hash;
 mod line;
+mod made;
 mod source;
 mod tally;
 
+pub use hash::hash_of;
+pub use hash::hash_of32;
 pub use line::field;
 pub use line::is_case;
+pub use made::high;
+pub use made::low;
+pub use made::noise;
+pub use made::noise32;
 pub use source::Source;
 pub use source::fill;
 pub use source::next;

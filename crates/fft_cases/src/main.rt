@@ -6,17 +6,15 @@
 //     5, 6      the length of what it reads, and of what it writes
 //     7         a place in what it writes
 //     8         its answer, 0 or the number of a refusal
-//     9         the hash of what then stands there (hash.rt)
+//     9         the hash of what then stands there (`cases::hash_of`)
 //     10, 11    the numbers at that place and the next, for a reader to look at
 //
 // For `a` the last two are det_cos and det_sin of the angle in field 0, and for `t` the table's numbers at the place in field 7
 // and the next. A field without a use is 0. Every number is written as the bits of an f64, samples too.
-mod hash;
 mod made;
 mod transforms;
 
 use cases::Tally;
-use hash::hash_of;
 use made::make;
 use transforms::Ran;
 use transforms::run;
@@ -143,7 +141,7 @@ fn transformed(line: &[u8]) -> Found
     };
     Found::All(Answer {
         number,
-        hash: hash_of(&buffer[..room]),
+        hash: cases::hash_of(&buffer[..room]),
         first: numbers::to_bits(buffer[at]),
         second: numbers::to_bits(buffer[at + 1]),
     })

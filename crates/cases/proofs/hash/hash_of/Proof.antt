@@ -1,10 +1,10 @@
--- `fft_cases::hash::hash_of` is safe and ends: the place that it reads lies in the buffer. Assumes nothing.
+-- `cases::hash_of` is safe and ends: the place that it reads lies in the buffer. Assumes nothing.
 use mathlib.Core.Path.{_≡_}
 use Prim.Native.Nat.{_-_, _≤_}
 use borrow.Author.Needs.{needs}
 use lib.ListN.{length}
-use Rattle.fft_cases.proofs.hash.hash_of.Statement.{statement}
-use Rattle.fft_cases.proofs.hash.hash_of.Tie as tie
+use Rattle.cases.proofs.hash.hash_of.Statement.{statement}
+use Rattle.cases.proofs.hash.hash_of.Tie as tie
 
 abbrev Inv-loop : tie.InvT-loop
 Inv-loop buffer word₀ i₀ i-end word i = (i-end ≡ length buffer) × (i ≤ length buffer)

@@ -1,10 +1,10 @@
--- `fft_cases::made::noise` is safe and ends: the place that it writes lies in the buffer, whose length stays. Assumes nothing.
+-- `cases::noise` is safe and ends: the place that it writes lies in the buffer, whose length stays. Assumes nothing.
 use mathlib.Core.Path.{_≡_}
 use Prim.Native.Nat.{_-_, _≤_}
 use borrow.Author.Needs.{needs}
 use lib.ListN.{length, length-set}
-use Rattle.fft_cases.proofs.made.noise.Statement.{statement}
-use Rattle.fft_cases.proofs.made.noise.Tie as tie
+use Rattle.cases.proofs.made.noise.Statement.{statement}
+use Rattle.cases.proofs.made.noise.Tie as tie
 
 abbrev Inv-loop : tie.InvT-loop
 Inv-loop seed base mask out₀ word₀ i₀ i-end out word i = (length out ≡ length out₀) × (i ≤ length out₀)

@@ -13,3 +13,16 @@ pub fn hash_of(buffer: &[f64]) -> u64 {
     }
     word
 }
+
+// The same of f32s.
+pub fn hash_of32(buffer: &[f32]) -> u64 {
+    let mut word = START;
+    for i in 0..buffer.len() {
+        word = turned(word ^ wide(numbers::to_bits32(buffer[i])));
+    }
+    word
+}
+
+fn wide(bits: u32) -> u64 {
+    bits as u64
+}
