@@ -10,6 +10,7 @@ mod error;
 mod inputs;
 mod rho_calls;
 mod rho_host;
+mod rho_kinds;
 mod rho_reference;
 mod rust_rho;
 mod tally;
@@ -17,6 +18,9 @@ mod tally;
 use canceller::EchoCanceller;
 use inputs::{bits, Noise, Random, DIGITS, DIGITS32, SIGN, SIGN32, SIZES, SIZES32};
 use rho_calls::{Answer, Report, RhoCanceller as State, Started};
+use rho_kinds::{
+    Kind, ANY, FAINT, FULL, HUGE, LARGE, LEAST, LOUD, QUARTER, SILENCE, SOUND, SUBNORMAL,
+};
 use rho_reference::MOST_PAIRS;
 use rust_rho::RhoCanceller;
 use tally::Tally;
@@ -44,26 +48,10 @@ const CREATIONS: usize = 10_000;
 /// Beyond what is lent of a buffer.
 const ROOM: usize = 8;
 
-/// Numbers by base and mask.
-type Kind = [u64; 2];
-
-const SILENCE: Kind = [0, SIGN32];
-const SOUND: Kind = [0x7f << 23, SIGN32 | SIZES32 | DIGITS32];
-/// 1 to 2, 1/4 to 1/2, 8 to 16, and 2^-31 to 2^-15.
-const FULL: Kind = [0x7f << 23, SIGN32 | DIGITS32];
-const QUARTER: Kind = [0x7d << 23, SIGN32 | DIGITS32];
-const LOUD: Kind = [0x82 << 23, SIGN32 | DIGITS32];
-const FAINT: Kind = [0x6f << 23, SIGN32 | SIZES32 | DIGITS32];
-/// The zeros and three subnormal sizes, all subnormal ones, and those up to 2^-111.
-const LEAST: Kind = [0, SIGN32 | 3];
-const SUBNORMAL: Kind = [0, SIGN32 | DIGITS32];
+/// Subnormal ones, and those up to 2^-111.
 const SMALL: Kind = [0, SIGN32 | SIZES32 | DIGITS32];
-/// 2^127 to 2^128, and 2^113 to 2^128.
-const HUGE: Kind = [0xfe << 23, SIGN32 | DIGITS32];
-const LARGE: Kind = [0xfe << 23, SIGN32 | SIZES32 | DIGITS32];
-/// Half of them not finite, and any pattern.
+/// Half of them not finite.
 const BROKEN: Kind = [0xff << 23, SIGN32 | 0x80 << 23 | 1];
-const ANY: Kind = [0, 0xffff_ffff];
 
 const KINDS: [Kind; 13] = [
     SILENCE, SOUND, FULL, QUARTER, LOUD, FAINT, LEAST, SUBNORMAL, SMALL, HUGE, LARGE, BROKEN, ANY,

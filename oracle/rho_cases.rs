@@ -6,39 +6,25 @@ mod canceller;
 mod error;
 mod inputs;
 mod rho_calls;
+mod rho_kinds;
 mod rho_reference;
 mod rust_rho;
 
-use inputs::{bits, bits32, turned, Noise, Random, DIGITS32, SIGN32, SIZES32};
+use inputs::{bits, bits32, turned, Noise, Random, DIGITS32, SIGN32};
 use rho_calls::{Answer, Report, RhoCanceller as State, Started};
+use rho_kinds::{
+    Kind, ANY, FAINT, FULL, HUGE, LARGE, LEAST, LOUD, QUARTER, SILENCE, SOUND, SUBNORMAL,
+};
 
 /// The sizes of the program's buffers, of which a call is lent the first part.
 const MOST_TAPS: usize = 8200;
 const MOST_PAIRS: usize = 4104;
 
-/// Samples by base and mask.
-type Kind = [u64; 2];
-
-const SILENCE: Kind = [0, SIGN32];
-const SOUND: Kind = [0x7f << 23, SIGN32 | SIZES32 | DIGITS32];
-/// 1 to 2, 1/4 to 1/2, 8 to 16, and 2^-31 to 2^-15.
-const FULL: Kind = [0x7f << 23, SIGN32 | DIGITS32];
-const QUARTER: Kind = [0x7d << 23, SIGN32 | DIGITS32];
-const LOUD: Kind = [0x82 << 23, SIGN32 | DIGITS32];
-const FAINT: Kind = [0x6f << 23, SIGN32 | SIZES32 | DIGITS32];
-/// The zeros and three subnormal sizes, and all subnormal ones.
-const LEAST: Kind = [0, SIGN32 | 3];
-const SUBNORMAL: Kind = [0, SIGN32 | DIGITS32];
-/// 2^127 to 2^128, and 2^113 to 2^128.
-const HUGE: Kind = [0xfe << 23, SIGN32 | DIGITS32];
-const LARGE: Kind = [0xfe << 23, SIGN32 | SIZES32 | DIGITS32];
 /// Infinite, or 1. NaN, or 1.5 to 2: no NaN is signalling, of which Rust's `max` on Arm makes a NaN against its own pages.
 const INFINITE: Kind = [0xff << 23, SIGN32 | 0x80 << 23];
 const NAN: Kind = [0x1ff << 22, SIGN32 | 0x80 << 23 | DIGITS32 >> 1];
-/// For samples only, whose NaNs no `max` sees.
-const ANY: Kind = [0, 0xffff_ffff];
 
-/// Of each but the last a buffer may be, too.
+/// Of each but the last a buffer may be, too: that one is for samples only, whose NaNs no `max` sees.
 const KINDS: [Kind; 13] = [
     SILENCE, SOUND, FULL, QUARTER, LOUD, FAINT, LEAST, SUBNORMAL, HUGE, LARGE, INFINITE, NAN, ANY,
 ];
