@@ -17,7 +17,7 @@ mod tally;
 
 use canceller::EchoCanceller;
 use inputs::{bits, Noise, Random, DIGITS, DIGITS32, SIGN, SIGN32, SIZES, SIZES32};
-use rho_calls::{Answer, Report, RhoCanceller as State, Started};
+use rho_calls::{whole, Answer, RhoCanceller as State, Started};
 use rho_kinds::{
     Kind, ANY, FAINT, FULL, HUGE, LARGE, LEAST, LOUD, QUARTER, SILENCE, SOUND, SUBNORMAL,
 };
@@ -157,16 +157,6 @@ impl Side {
         };
         self.state = answer.state;
         answer
-    }
-}
-
-/// As if there were more in it.
-fn whole(started: Started) -> Answer {
-    Answer {
-        refusal: started.refusal,
-        delivered: 0,
-        state: started.state,
-        report: Report::default(),
     }
 }
 

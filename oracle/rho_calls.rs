@@ -38,3 +38,13 @@ pub struct Answer {
     pub state: RhoCanceller,
     pub report: Report,
 }
+
+/// Creation and reset deliver and report nothing.
+pub fn whole(started: Started) -> Answer {
+    Answer {
+        refusal: started.refusal,
+        delivered: 0,
+        state: started.state,
+        report: Report::default(),
+    }
+}

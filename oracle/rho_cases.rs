@@ -11,7 +11,7 @@ mod rho_reference;
 mod rust_rho;
 
 use inputs::{bits, bits32, turned, Noise, Random, DIGITS32, SIGN32};
-use rho_calls::{Answer, Report, RhoCanceller as State, Started};
+use rho_calls::{whole, Answer, RhoCanceller as State, Started};
 use rho_kinds::{
     Kind, ANY, FAINT, FULL, HUGE, LARGE, LEAST, LOUD, QUARTER, SILENCE, SOUND, SUBNORMAL,
 };
@@ -114,16 +114,6 @@ fn hash(samples: &[f32]) -> u64 {
 
 fn halves([high, low]: [usize; 2]) -> u64 {
     (high as u64) << 32 | low as u64
-}
-
-/// Creation and reset deliver and report nothing.
-fn whole(started: Started) -> Answer {
-    Answer {
-        refusal: started.refusal,
-        delivered: 0,
-        state: started.state,
-        report: Report::default(),
-    }
 }
 
 impl List {
