@@ -12,6 +12,7 @@ mod error;
 mod fft;
 mod host;
 mod inputs;
+mod kinds;
 mod reference;
 mod rho_calls;
 mod rho_host;
@@ -19,7 +20,8 @@ mod rust_rho;
 
 use canceller::EchoCanceller;
 use fft::{Complex, ComplexFft, RealFft};
-use inputs::{turned, Noise, DIGITS32, SIGN32, SIZES32};
+use inputs::{turned, Noise};
+use kinds::{samples, Kind, LOUD, QUARTER, SOUND};
 use reference::{complexes, numbers, POINTS, SAMPLES, SPECTRUM};
 use rust_rho::RhoCanceller;
 use std::array::from_fn;
@@ -42,8 +44,12 @@ fn main() {
     narrow();
     for tail in [64, 200] {
         let taps = 16 * tail;
-        rho(&format!("Rho, {taps} taps, updating"), tail, 0x7c << 23);
-        rho(&format!("Rho, {taps} taps, frozen"), tail, 0x82 << 23);
+        rho(
+            &format!("Rho, {taps} taps, a pair with update"),
+            tail,
+            QUARTER,
+        );
+        rho(&format!("Rho, {taps} taps, a frozen pair"), tail, LOUD);
     }
 }
 
@@ -155,32 +161,23 @@ fn narrow() {
     );
 }
 
-/// A pair at 16 kHz, of a stream that goes on. Far is sound. Near is of one size: below half the peak of far, so
-/// that each pair updates the filter, or above it, so that each is frozen.
-fn rho(name: &str, tail: u16, size: u64) {
+/// A pair at 16 kHz, of a stream that goes on. Far is sound, whose peak is from 1 to 2. Near is below half of
+/// that, so that every pair updates the filter, or above it, so that every pair is frozen.
+fn rho(name: &str, tail: u16, near: Kind) {
     let mut sounds = sounds();
-    let mut samples = move |base, mask| -> [f32; PAIRS] {
-        let word = sounds().word;
-        let mut noise = Noise { word, base, mask };
-        from_fn(|_| noise.sample())
-    };
-    let mut pairs = move || {
-        let near = samples(size, SIGN32 | DIGITS32);
-        let far = samples(0x7f << 23, SIGN32 | SIZES32 | DIGITS32);
-        (near, far)
-    };
+    let mut pairs = move || [near, SOUND].map(|kind| samples(sounds().word, kind, PAIRS));
     let mut engine = RhoCanceller::new(16_000, tail);
     let mut state = engine.read_state();
     let mut weights = engine.read_weights().to_vec();
     let mut history = engine.read_history().to_vec();
-    let mut samples = Vec::new();
+    let mut delivered = Vec::new();
     let mut out = [0.0; PAIRS];
-    let mut rust = |(near, far): &mut ([f32; PAIRS], [f32; PAIRS])| {
-        samples.clear();
-        let Ok(()) = engine.process(near, far, &mut samples);
-        black_box(&samples);
+    let mut rust = |[near, far]: &mut [Vec<f32>; 2]| {
+        delivered.clear();
+        let Ok(()) = engine.process(near, far, &mut delivered);
+        black_box(&delivered);
     };
-    let mut port = |(near, far): &mut ([f32; PAIRS], [f32; PAIRS])| {
+    let mut port = |[near, far]: &mut [Vec<f32>; 2]| {
         state = rho_host::process(state, &mut weights, &mut history, near, far, &mut out).state;
         black_box(&out);
     };

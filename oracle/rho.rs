@@ -8,19 +8,17 @@
 mod canceller;
 mod error;
 mod inputs;
+mod kinds;
 mod rho_calls;
 mod rho_host;
-mod rho_kinds;
 mod rho_reference;
 mod rust_rho;
 mod tally;
 
 use canceller::EchoCanceller;
-use inputs::{bits, Noise, Random, DIGITS, DIGITS32, SIGN, SIGN32, SIZES, SIZES32};
-use rho_calls::{whole, Answer, RhoCanceller as State, Started};
-use rho_kinds::{
-    Kind, ANY, FAINT, FULL, HUGE, LARGE, LEAST, LOUD, QUARTER, SILENCE, SOUND, SUBNORMAL,
-};
+use inputs::{bits, Noise, Random, DIGITS, SIGN, SIZES};
+use kinds::*;
+use rho_calls::{Answer, RhoCanceller as State, Started};
 use rho_reference::MOST_PAIRS;
 use rust_rho::RhoCanceller;
 use tally::Tally;
@@ -48,17 +46,14 @@ const CREATIONS: usize = 10_000;
 /// Beyond what is lent of a buffer.
 const ROOM: usize = 8;
 
-/// Subnormal ones, and those up to 2^-111.
-const SMALL: Kind = [0, SIGN32 | SIZES32 | DIGITS32];
-/// Half of them not finite.
-const BROKEN: Kind = [0xff << 23, SIGN32 | 0x80 << 23 | 1];
-
-const KINDS: [Kind; 13] = [
-    SILENCE, SOUND, FULL, QUARTER, LOUD, FAINT, LEAST, SUBNORMAL, SMALL, HUGE, LARGE, BROKEN, ANY,
+/// What a foreign buffer is of.
+const KINDS: [Kind; 14] = [
+    SILENCE, SOUND, FULL, QUARTER, LOUD, FAINT, LEAST, SUBNORMAL, SMALL, HUGE, LARGE, INFINITE,
+    NAN, ANY,
 ];
 
 /// Powers of a foreign state: any, 2^-15 to 2 of either sign, and none that is finite.
-const POWERS: [Kind; 3] = [
+const POWERS: [[u64; 2]; 3] = [
     [0, !0],
     [0x3ff << 52, SIGN | SIZES | DIGITS],
     [0x7ff << 52, SIGN | 1],
@@ -91,7 +86,7 @@ const SCENES: [Scene; 16] = [
     Scene::Kinds(LEAST, LEAST),
     Scene::Kinds(LARGE, HUGE),
     Scene::Kinds(QUARTER, HUGE),
-    Scene::Kinds(BROKEN, BROKEN),
+    Scene::Kinds(NAN, INFINITE),
     Scene::Kinds(ANY, ANY),
 ];
 
@@ -148,12 +143,12 @@ impl Side {
         let history = &mut self.history[..lent.history];
         let out = &mut self.out[..lent.out];
         let answer = match call {
-            Call::Create(rate, tail) => whole((functions.create)(*rate, *tail, weights, history)),
+            Call::Create(rate, tail) => (functions.create)(*rate, *tail, weights, history).whole(),
             Call::Process(near, far) => {
                 (functions.process)(self.state, weights, history, near, far, out)
             }
             Call::Flush => (functions.flush)(self.state, weights, history),
-            Call::Reset => whole((functions.reset)(self.state, weights, history)),
+            Call::Reset => (functions.reset)(self.state, weights, history).whole(),
         };
         self.state = answer.state;
         answer
@@ -288,10 +283,8 @@ fn main() {
 }
 
 impl Both {
-    fn noise(&mut self, [base, mask]: Kind, count: usize) -> Vec<f32> {
-        let word = self.random.word();
-        let mut noise = Noise { word, base, mask };
-        (0..count).map(|_| noise.sample()).collect()
+    fn noise(&mut self, kind: Kind, count: usize) -> Vec<f32> {
+        samples(self.random.word(), kind, count)
     }
 
     /// New buffers for so many taps, with noise in them.
@@ -450,7 +443,7 @@ impl Both {
     fn set_all(&mut self, state: State, weights: Vec<f32>, history: Vec<f32>) {
         self.set(state);
         self.is_foreign = true;
-        // No signalling NaN: of one and a number Rust's `max` gives a NaN on Arm, against its own pages.
+        // No signalling NaN, as kinds.rs has it.
         let quiet = |x: f32| if x.is_nan() { f32::NAN } else { x };
         let history: Vec<f32> = history.into_iter().map(quiet).collect();
         for side in [&mut self.port, &mut self.rust] {

@@ -39,12 +39,13 @@ pub struct Answer {
     pub report: Report,
 }
 
-/// Creation and reset deliver and report nothing.
-pub fn whole(started: Started) -> Answer {
-    Answer {
-        refusal: started.refusal,
-        delivered: 0,
-        state: started.state,
-        report: Report::default(),
+impl Started {
+    /// With nothing delivered and nothing reported.
+    pub fn whole(self) -> Answer {
+        Answer {
+            refusal: self.refusal,
+            state: self.state,
+            ..Answer::default()
+        }
     }
 }

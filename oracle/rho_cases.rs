@@ -5,28 +5,22 @@
 mod canceller;
 mod error;
 mod inputs;
+mod kinds;
 mod rho_calls;
-mod rho_kinds;
 mod rho_reference;
 mod rust_rho;
 
-use inputs::{bits, bits32, turned, Noise, Random, DIGITS32, SIGN32};
-use rho_calls::{whole, Answer, RhoCanceller as State, Started};
-use rho_kinds::{
-    Kind, ANY, FAINT, FULL, HUGE, LARGE, LEAST, LOUD, QUARTER, SILENCE, SOUND, SUBNORMAL,
-};
+use inputs::{bits, bits32, turned, Random};
+use kinds::*;
+use rho_calls::{Answer, RhoCanceller as State, Started};
 
 /// The sizes of the program's buffers, of which a call is lent the first part.
 const MOST_TAPS: usize = 8200;
 const MOST_PAIRS: usize = 4104;
 
-/// Infinite, or 1. NaN, or 1.5 to 2: no NaN is signalling, of which Rust's `max` on Arm makes a NaN against its own pages.
-const INFINITE: Kind = [0xff << 23, SIGN32 | 0x80 << 23];
-const NAN: Kind = [0x1ff << 22, SIGN32 | 0x80 << 23 | DIGITS32 >> 1];
-
-/// Of each but the last a buffer may be, too: that one is for samples only, whose NaNs no `max` sees.
-const KINDS: [Kind; 13] = [
-    SILENCE, SOUND, FULL, QUARTER, LOUD, FAINT, LEAST, SUBNORMAL, HUGE, LARGE, INFINITE, NAN, ANY,
+/// What a foreign buffer is of.
+const KINDS: [Kind; 12] = [
+    SILENCE, SOUND, FULL, QUARTER, LOUD, FAINT, LEAST, SUBNORMAL, HUGE, LARGE, INFINITE, NAN,
 ];
 
 /// How samples are made, here and in crates/rho_cases/src/made.rt: noise, with one number of its own at a place, if there is such a
@@ -72,13 +66,7 @@ impl Recipe {
     }
 
     fn samples(self, count: usize) -> Vec<f32> {
-        let [base, mask] = self.kind;
-        let mut noise = Noise {
-            word: self.seed,
-            base,
-            mask,
-        };
-        let mut samples: Vec<f32> = (0..count).map(|_| noise.sample()).collect();
+        let mut samples = samples(self.seed, self.kind, count);
         if let Some(x) = samples.get_mut(self.place as usize) {
             *x = f32::from_bits(self.mark);
         }
@@ -155,7 +143,7 @@ impl List {
             rho_reference::create(rate, tail, &mut self.weights[..w], &mut self.history[..h]);
         let settings = halves([rate as usize, tail as usize]);
         let given = [0, 0, 0, 0, 0, 0, halves(self.lent), settings, 0];
-        self.line('c', given, whole(started), Out::default());
+        self.line('c', given, started.whole(), Out::default());
     }
 
     /// With as many of each as the settings ask for. How many taps there are.
@@ -214,7 +202,7 @@ impl List {
         let (weights, history) = (&mut self.weights[..w], &mut self.history[..h]);
         let started = rho_reference::reset(self.state, weights, history);
         let given = [0, 0, 0, 0, 0, 0, halves(self.lent), 0, 0];
-        self.line('r', given, whole(started), Out::default());
+        self.line('r', given, started.whole(), Out::default());
     }
 
     /// No call: a state and the buffers.
@@ -227,7 +215,7 @@ impl List {
         self.line(
             's',
             given,
-            whole(Started { refusal: 0, state }),
+            Started { refusal: 0, state }.whole(),
             Out::default(),
         );
     }
@@ -244,7 +232,7 @@ impl List {
         self.line(
             'w',
             given,
-            whole(Started { refusal: 0, state }),
+            Started { refusal: 0, state }.whole(),
             Out::default(),
         );
     }
@@ -274,48 +262,44 @@ fn main() {
     print!("{}", list.text);
 }
 
+/// Settings with the least and the most taps, and between.
+const INSIDE: [(u32, u32); 6] = [
+    (8_000, 0),
+    (8_000, 1),
+    (11_025, 3),
+    (48_000, 1),
+    (48_000, 170),
+    (8_192, 1_000),
+];
+
+/// A rate or a tail out of its range, and more taps than there may be.
+const OUTSIDE: [(u32, u32); 9] = [
+    (7_999, 1),
+    (48_001, 1),
+    (0, 0),
+    (u32::MAX, 1),
+    (8_000, 1_001),
+    (16_000, u32::MAX),
+    (16_000, 513),
+    (8_193, 1_000),
+    (48_000, 171),
+];
+
 /// Creations over buffers that hold something, first M10's: 1 tap, and a freeze of 240.
 fn settings(list: &mut List) {
     list.set(State::default(), Recipe::of(1.0), Recipe::of(-1.0));
     list.begin(16_000, 0);
-    let most = (8_192, 1_000);
-    for (rate, tail) in [
-        (8_000, 0),
-        (8_000, 1),
-        (11_025, 3),
-        (48_000, 1),
-        (48_000, 170),
-        most,
-    ] {
+    for (rate, tail) in INSIDE {
         list.begin(rate, tail);
         list.set(list.state, Recipe::of(2.0), Recipe::of(-2.0));
     }
-    let outside = [
-        (7_999, 1),
-        (48_001, 1),
-        (0, 0),
-        (u32::MAX, 1),
-        (8_000, 1_001),
-        (16_000, u32::MAX),
-        (16_000, 513),
-        (8_193, 1_000),
-        (48_000, 171),
-    ];
-    for (rate, tail) in outside {
+    for (rate, tail) in OUTSIDE {
         for taps in [8, 8_193] {
             list.lent = [taps; 2];
             list.create(rate, tail);
         }
     }
-    for lent in [
-        [15, 16],
-        [16, 15],
-        [17, 16],
-        [16, 17],
-        [0, 16],
-        [16, 0],
-        [8_200, 8_200],
-    ] {
+    for lent in wrong_of(16) {
         list.lent = lent;
         list.create(16_000, 1);
     }
@@ -325,6 +309,20 @@ fn settings(list: &mut List) {
     list.flush();
     list.reset();
     list.kinds(FULL, FULL, 1);
+}
+
+/// Lengths of the two buffers that are wrong for so many taps.
+fn wrong_of(taps: usize) -> [[usize; 2]; 8] {
+    [
+        [taps - 1, taps],
+        [taps, taps - 1],
+        [taps + 1, taps],
+        [taps, taps + 1],
+        [0, taps],
+        [taps, 0],
+        [0, 0],
+        [MOST_TAPS, MOST_TAPS],
+    ]
 }
 
 /// Rates and tails, for 1, 1, 8, 33, 44, 64, 48, 1,000 and 3,200 taps.
@@ -399,7 +397,7 @@ fn kinds(list: &mut List) {
     let order = [
         SILENCE, LEAST, FAINT, QUARTER, FULL, SOUND, LOUD, HUGE, INFINITE, ANY,
     ];
-    for far in KINDS {
+    for far in KINDS.into_iter().chain([ANY]) {
         list.reset();
         for near in order {
             list.kinds(near, far, 12);
@@ -420,9 +418,9 @@ fn foreign(list: &mut List) {
         f64::MAX,
         f64::from_bits(1),
     ];
-    for (i, weights) in KINDS[..12].iter().enumerate() {
-        for (j, history) in KINDS[..12].iter().enumerate() {
-            if (i + 2 * j) % 3 != 0 && (i, j) != (1, 1) {
+    for (i, weights) in KINDS.iter().enumerate() {
+        for (j, history) in KINDS.iter().enumerate() {
+            if (i + 2 * j) % 3 != 0 {
                 continue;
             }
             let taps = 1 + list.random.below(20);
@@ -576,7 +574,32 @@ fn refused_states(list: &mut List) {
     }
 }
 
-/// Refusals 2 to 5, alone and before those that come after, and lengths that are right.
+/// Lengths of near and far, and of the output buffer, for refusals 3, 4 and 5, each alone and before those after it.
+const WRONG: [([usize; 2], usize); 12] = [
+    ([1, 0], 8),
+    ([0, 1], 8),
+    ([5, 4], 8),
+    ([4_097, 4_096], 4_104),
+    ([4_098, 4_097], 0),
+    ([4_097, 4_097], 4_104),
+    ([4_104, 4_104], 4_104),
+    ([4_097, 4_097], 4_096),
+    ([4_097, 4_097], 0),
+    ([1, 1], 0),
+    ([100, 100], 99),
+    ([4_096, 4_096], 4_095),
+];
+
+const RIGHT: [(usize, usize); 6] = [
+    (0, 0),
+    (0, 1),
+    (1, 1),
+    (1, 2),
+    (4_096, 4_096),
+    (4_096, 4_104),
+];
+
+/// Refusal 2, alone and before those after it, then the others, then lengths that are right.
 fn refused_lengths(list: &mut List) {
     list.lent = [4; 2];
     let state = State {
@@ -586,16 +609,7 @@ fn refused_lengths(list: &mut List) {
         ..quiet(4, 2)
     };
     list.set(state, Recipe::of(0.5), Recipe::of(0.75));
-    for lent in [
-        [3, 4],
-        [4, 3],
-        [5, 4],
-        [4, 5],
-        [0, 4],
-        [4, 0],
-        [0, 0],
-        [8_200, 8_200],
-    ] {
+    for lent in wrong_of(4) {
         list.lent = lent;
         list.flush();
         list.reset();
@@ -603,31 +617,10 @@ fn refused_lengths(list: &mut List) {
         list.process(Recipe::of(1.0), Recipe::of(1.0), [4_098, 4_097], 0);
     }
     list.lent = [4; 2];
-    let wrong = [
-        ([1, 0], 8),
-        ([0, 1], 8),
-        ([5, 4], 8),
-        ([4_097, 4_096], 4_104),
-        ([4_098, 4_097], 0),
-        ([4_097, 4_097], 4_104),
-        ([4_104, 4_104], 4_104),
-        ([4_097, 4_097], 4_096),
-        ([4_097, 4_097], 0),
-        ([1, 1], 0),
-        ([100, 100], 99),
-        ([4_096, 4_096], 4_095),
-    ];
-    for (pairs, room) in wrong {
+    for (pairs, room) in WRONG {
         list.process(Recipe::of(1.0), Recipe::of(1.0), pairs, room);
     }
-    for (count, room) in [
-        (0, 0),
-        (0, 1),
-        (1, 1),
-        (1, 2),
-        (4_096, 4_096),
-        (4_096, 4_104),
-    ] {
+    for (count, room) in RIGHT {
         list.process(Recipe::of(0.25), Recipe::of(1.0), [count; 2], room);
     }
 }
