@@ -1,10 +1,6 @@
-// A complex number by value, and number i of a buffer that holds complex numbers part by part.
-//
-// `get` and `put` have a `requires`: they are for the crates above, which meet it, and no host calls them.
+// A complex number by value. Number i of a buffer that holds complex numbers part by part is `getC`, `putC` in specs/Complexes.
 ghost use mathlib.Core.Path.{_≡_};
-ghost use Prim.Native.Nat.{_+_, _*_, _<_};
-ghost use lib.ListN.{length};
-ghost use Rattle.complex.specs.Complexes.{newC, conjC, addC, subC, mulC, scaleC, getC, putC};
+ghost use Rattle.complex.specs.Complexes.{newC, conjC, addC, subC, mulC, scaleC};
 
 pub struct Complex {
     pub re: f64,
@@ -65,20 +61,4 @@ impl Complex {
             im: self.im * factor,
         }
     }
-}
-
-// Where number i lies in a buffer is said here and in `getC`, `putC`, and nowhere else.
-pub fn get(s: &[f64], i: usize) -> Complex
-    requires { ⌜ 2 * i + 1 < length (now s) ⌝ }
-    ensures { λ r. ⌜ r ≡ getC (now (s .entry)) i ⌝ }
-{
-    Complex::new(s[2 * i], s[2 * i + 1])
-}
-
-pub fn put(s: &mut [f64], i: usize, z: Complex)
-    requires { ⌜ 2 * i + 1 < length (now s) ⌝ }
-    ensures { λ _. ⌜ now (s .exit) ≡ putC (now (s .entry)) i z ⌝ }
-{
-    s[2 * i] = z.re;
-    s[2 * i + 1] = z.im;
 }

@@ -2,10 +2,10 @@
 // The functions that take a twiddle table are right for any table: their meaning is stated over it.
 use crate::DONE;
 use crate::WRONG_LENGTH;
+use crate::points::get;
+use crate::points::put;
 use crate::reversal::reversal_table;
 use complex::Complex;
-use complex::get;
-use complex::put;
 ghost use mathlib.Core.Path.{_≡_};
 ghost use Prim.Native.Nat.{_+_, _*_, _≤_, _<_};
 ghost use lib.ListN.{length};

@@ -1,5 +1,6 @@
 // The transform: 256 complex points in place, and the real transform of 512 samples over it, as fft.rs has them.
 mod complex_fft;
+mod points;
 mod real_fft;
 mod reversal;
 

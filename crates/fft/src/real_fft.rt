@@ -3,14 +3,14 @@
 use crate::DONE;
 use crate::WRONG_LENGTH;
 use crate::complex_fft::run;
+use crate::points::get;
+use crate::points::put;
 use crate::reversal::reversal_table;
 use complex::Complex;
-use complex::get;
-use complex::put;
 ghost use mathlib.Core.Path.{_≡_};
 ghost use mathlib.Core.Bool.{true, false};
 ghost use mathlib.Core.List.{map};
-ghost use Prim.Native.Nat.{_+_, _*_, _≤_, _<_};
+ghost use Prim.Native.Nat.{_+_, _*_, _≤_};
 ghost use lib.ListN.{length};
 ghost use Rattle.numbers.specs.Narrowing.{narrowOf};
 ghost use Rattle.fft.specs.ComplexFft.{runOf};
