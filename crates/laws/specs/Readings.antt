@@ -8,11 +8,12 @@
 --     over-front, over-filled, over-copied            the first n places, and the rest as it was
 --     overAt-back, overAt-copied, overAt-padded       from place b on, and what lies before as it was
 --     slide                                a window's second half moved to the front and a block put behind it
+--     over-dropped                         all of a list: what lies from a place on in another
 -- Assumes nothing.
 use mathlib.Core.Path.{_≡_, refl, sym, ap, _∙_}
 use mathlib.Core.List.{List, [], _∷_, _++_, foldl, map}
 use Prim.Native.Nat.{ℕ, zero, suc, _+_, _-_, _*_, _≤_, _<_}
-use native.Mathlib.Nat.{not-suc-le-zero, le-of-suc-le-suc, le-refl, add-sub-cancel, suc-inj, add-zero, zero-add, add-suc, suc-add}
+use native.Mathlib.Nat.{not-suc-le-zero, le-of-suc-le-suc, le-refl, add-sub-cancel, add-sub-cancel-left, suc-inj, add-zero, zero-add, add-suc, suc-add}
 use native.Mathlib.Omega.{arith}
 use lib.ListN.{length, getD, take, drop, replicate, length-drop}
 use lib.Seq.{getD-drop, drop-drop}
@@ -172,6 +173,12 @@ module _ {A : Type 0} where
       over-cong (λ k x. getD w (h + k) z) (λ k x. getD v k z) w h (λ k x l. sym (getD-drop h w k z))
       ∙ (rw n at (front z w v (omega arith))) in
       ap (λ (l : List A). overAt h h (λ k x. getD b k z) l) one ∙ (rw (n, f) at (back z v v b (f ∙ sym n)))
+
+  -- a list of n places that takes what lies from b on
+  pub over-dropped : (z : A) (b n : ℕ) (s d : List A) → length s ≡ b + n → length d ≡ n → over n (λ k x. getD s (b + k) z) d ≡ drop b s
+  over-dropped z b n s d e f =
+      let v : length (drop b s) ≡ length d = length-drop b s ∙ rw (e, f) (add-sub-cancel-left b n) in
+      over-cong (λ k x. getD s (b + k) z) (λ k x. getD (drop b s) k z) d n (λ k x l. sym (getD-drop b s k z)) ∙ (rw f at (over-copy z (drop b s) d v))
 
 -- each place takes f of what stands there in another list, of any type
 pub over-mapped : {A B : Type 0} (z : B) (f : B → A) (s : List B) (d : List A) → length s ≡ length d → over (length d) (λ k x. f (getD s k z)) d ≡ map f s
