@@ -1,0 +1,4 @@
+pub mod Bounds
+pub mod Lengths
+pub mod Marked
+pub mod Ranged

@@ -1,0 +1,12 @@
+pub mod Constants
+pub mod Sums
+pub mod After
+pub mod Weights
+pub mod Clears
+pub mod Detector
+pub mod Paths
+pub mod Guard
+pub mod Powers
+pub mod Ranges
+pub mod Report
+pub mod Marked

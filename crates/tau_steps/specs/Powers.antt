@@ -1,0 +1,14 @@
+-- Step 9, "The two smoothed powers for the host": 0.999, sample by sample over the valid ones, the delivered block's after the guard.
+use mathlib.Core.List.{List}
+use Prim.Native.Nat.{ℕ}
+use lib.ListN.{getD}
+use lib.Ieee.{Float, nan, binary64, mul}
+use Rattle.laws.specs.Loops.{iter}
+use Rattle.tau_steps.specs.Constants.{f0-999, smoothBy}
+use Rattle.tau_steps.specs.declared.state.Powers.{Powers}
+
+unfoldable pub heard : List Float → ℕ → Float → Float
+heard s n x = iter (λ k a. smoothBy f0-999 a (mul binary64 (getD s k nan) (getD s k nan))) x n
+
+unfoldable pub hosted : List Float → List Float → ℕ → Powers → Powers
+hosted near block n p = record { «near_power» = heard near n (p .«near_power»); «residual_power» = heard block n (p .«residual_power») }
