@@ -1,0 +1,20 @@
+use Rattle.laws.specs.Parts.{with-is}
+use mathlib.Core.Path.{refl}
+use borrow.Author.Needs.{needs}
+use Rattle.tau_block.proofs.far.store.Statement.{statement}
+use Rattle.tau_block.proofs.far.store.Tie as tie
+
+pub store-spec : {M : Type 1} → statement M
+store-spec =
+    tie.close
+    (tie.spec
+    (λ c. search needs)
+    (λ c. search needs)
+    (λ c. search needs)
+    (λ c. search needs)
+    (λ c. search needs)
+    (λ c. search needs)
+    (λ c. search needs)
+    (λ c κs. search needs)
+    (λ c. search needs)
+    (λ c. cc (with-is 514 _ _ _ _ refl)))

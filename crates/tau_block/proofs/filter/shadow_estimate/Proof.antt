@@ -1,0 +1,20 @@
+use Rattle.tau_block.specs.Filter.{shadowed}
+use Rattle.laws.specs.Choice.{pick-yes, pick-no}
+use borrow.Author.Needs.{needs}
+use Rattle.tau_block.proofs.filter.shadow_estimate.Statement.{statement}
+use Rattle.tau_block.proofs.filter.shadow_estimate.Tie as tie
+
+pub shadow-estimate-spec : {M : Type 1} → statement M
+unfolding shadowed
+shadow-estimate-spec =
+    tie.close
+    (tie.spec
+    (λ c κs. search needs)
+    (λ c κs. search needs)
+    (λ c κs. search needs)
+    (λ c κs. search needs)
+    (λ c κs. search needs)
+    (λ c. search needs)
+    (λ c. pick-yes _ _ _ (cc) (rw (← c .before .before .before .diverge-shadow .ensures)))
+    (λ c. search needs)
+    (λ c. pick-no _ _ _ (cc) (cc)))

@@ -1,0 +1,35 @@
+use Rattle.tau_block.specs.Suppressor.{shaped}
+use mathlib.Core.Path.{_≡_, _∙_}
+use Prim.Native.Nat.{_-_, _+_, _≤_}
+use native.Mathlib.Omega.{arith}
+use lib.Ieee.{nan}
+use lib.ListN.{getD, length}
+use Rattle.complex.specs.Complexes.{newC, scaleC}
+use Rattle.laws.specs.Loops.{over2, over2-none, over2-next, over2-end}
+use Rattle.tau_block.proofs.suppressor.shape.Statement.{statement}
+use Rattle.tau_block.proofs.suppressor.shape.Tie as tie
+use borrow.Author.Needs.{needs}
+
+abbrev Inv-loop : tie.InvT-loop
+Inv-loop v s₀ k₀ s k = (k ≤ 257) × (length s ≡ 514) × (s ≡ over2 nan k (λ j re im. scaleC (newC re im) (getD v j nan) .re) (λ j re im. scaleC (newC re im) (getD v j nan) .im) s₀)
+
+abbrev μ-loop : tie.MeasureT-loop
+μ-loop v s₀ k₀ s k = 257 - k
+
+pub shape-spec : {M : Type 1} → statement M
+unfolding shaped
+shape-spec =
+    tie.close
+    (tie.spec Inv-loop μ-loop
+    (λ c. (search needs, search needs, over2-none nan _ _ _))
+    (λ c. search needs)
+    (λ c κs. search needs)
+    (λ c. search needs)
+    (λ c. search needs)
+    (λ c κs. search needs)
+    (λ c. search needs)
+    (λ c κs. search needs)
+    (λ c. search needs)
+    (λ c. search needs)
+    (λ c. (search needs, search needs, over2-next nan _ _ _ _ (c .before .before .before .before .before .before .before .before .loop .inv .2) (rw (c .before .put .ensures, c .before .before .before .scale .ensures, c .before .before .before .before .before .get .ensures))))
+    (λ c. over2-end nan _ _ _ _ _ (c .before .loop .inv .2) (omega arith) (omega arith)))

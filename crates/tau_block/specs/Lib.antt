@@ -1,0 +1,6 @@
+pub mod Bins
+pub mod Far
+pub mod Filter
+pub mod Update
+pub mod Suppressor
+pub mod Block

@@ -1,0 +1,102 @@
+// Steps 1 and 4: what is heard from the loudspeaker.
+use crate::transform::slide;
+use crate::transform::spectrum;
+use tau_steps::state::Far;
+use tau_steps::sums::energy;
+use tau_steps::weights::copy;
+ghost use mathlib.Core.Path.{_≡_};
+ghost use Prim.Native.Nat.{_≤_, _<_, _*_};
+ghost use lib.ListN.{length};
+ghost use Rattle.laws.specs.Parts.{withPart};
+ghost use Rattle.trig.specs.Tables.{recombination};
+ghost use Rattle.fft.specs.Reversal.{reversalTable};
+ghost use Rattle.tau_block.specs.Far.{sounds, nextSlot, peakOf, drives, hearFar};
+
+const FAR_ACTIVITY_FRACTION: f64 = 1e-4;
+
+pub struct Heard {
+    pub far: Far,
+    pub far_is_active: bool,
+}
+
+fn sounding(b: &[f32; 256]) -> bool
+    ensures { λ r. ⌜ r ≡ sounds (now (b .entry)) 256 ⌝ }
+{
+    let mut on = false;
+    let mut i = 0usize;
+    while i < 256 {
+        on = on | (b[i] != 0.0);
+        i += 1;
+    }
+    on
+}
+
+fn next_slot(partitions: usize, head: usize) -> usize
+    requires { ⌜ (partitions ≤ 32) × (head < partitions) ⌝ }
+    ensures { λ r. ⌜ (r ≡ nextSlot partitions head) × (r < partitions) ⌝ }
+{
+    if head + 1 == partitions {
+        return 0;
+    }
+    head + 1
+}
+
+fn peak(old: f64, e: f64) -> f64
+    ensures { λ r. ⌜ r ≡ peakOf old e ⌝ }
+{
+    if old < e {
+        return e;
+    }
+    old
+}
+
+fn driving(peak: f64, e: f64) -> bool
+    ensures { λ r. ⌜ r ≡ drives peak e ⌝ }
+{
+    let heard = 0.0 < peak;
+    let above = FAR_ACTIVITY_FRACTION * peak < e;
+    heard & above
+}
+
+fn store(spectra: &mut [f64], slot: usize, partitions: usize, s: [f64; 514])
+    requires { ⌜ (length (now spectra) ≡ 514 * partitions) × (slot < partitions) × (partitions ≤ 32) ⌝ }
+    ensures { λ _. ⌜ now (spectra .exit) ≡ withPart 514 slot (now (spectra .entry)) s ⌝ }
+{
+    let a = 514 * slot;
+    let e = a + 514;
+    copy(&mut spectra[a..e], &s);
+}
+
+pub fn hear(
+    tw: &[f64; 514],
+    rev: &[u8; 256],
+    tmp: &mut [f64; 1024],
+    partitions: usize,
+    f: Far,
+    block: [f32; 256],
+    spectra: &mut [f64],
+) -> Heard
+    requires { ⌜ now tw ≡ recombination ⌝ }
+    requires { ⌜ now rev ≡ reversalTable ⌝ }
+    requires { ⌜ (length (now spectra) ≡ 514 * partitions) × (f .head < partitions) × (partitions ≤ 32) ⌝ }
+    ensures { λ r. ⌜ record { answer = r; buffer = now (spectra .exit) } ≡ hearFar partitions f block (now (spectra .entry)) ⌝ }
+    ensures { λ r. ⌜ r .far .head < partitions ⌝ }
+{
+    let old = f.window;
+    let w = slide(old, block);
+    let head = next_slot(partitions, f.head);
+    let s = spectrum(tw, rev, tmp, w);
+    store(spectra, head, partitions, s);
+    let e = energy(&block, 256);
+    let top = peak(f.far_energy_peak, e);
+    let on = sounding(&block);
+    Heard {
+        far: Far {
+            window: w,
+            head,
+            far_active: f.far_active | on,
+            far_energy_peak: top,
+        },
+        far_is_active: driving(top, e),
+    }
+}

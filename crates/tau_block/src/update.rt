@@ -1,0 +1,263 @@
+// Step 6: the normalized update of the shadow, with the gradient constraint.
+use crate::bins::get;
+use crate::bins::power;
+use crate::bins::put;
+use crate::filter::slot_of;
+use crate::transform::samples;
+use crate::transform::slide;
+use crate::transform::spectrum;
+use complex::Complex;
+use tau_steps::clears::diverge_shadow;
+use tau_steps::state::Paths;
+use tau_steps::sums::smooth;
+ghost use mathlib.Core.Path.{_≡_};
+ghost use mathlib.Core.Bool.{_&&_};
+ghost use mathlib.Core.List.{_++_};
+ghost use Prim.Native.Nat.{_≤_, _<_, _*_};
+ghost use lib.ListN.{length, take, replicate, getD};
+ghost use lib.Ieee.{nan, binary64, add};
+ghost use Rattle.laws.specs.Loops.{over};
+ghost use Rattle.trig.specs.Tables.{recombination};
+ghost use Rattle.fft.specs.Reversal.{reversalTable};
+ghost use Rattle.tau_steps.specs.Constants.{zero32};
+ghost use Rattle.tau_block.specs.Bins.{powerAt};
+ghost use Rattle.tau_block.specs.Update.{farPowerTo, factorOf, rateOf, ratesOf, meansOf, gradientOf, constrained, stepped, finiteTo, learntTo, verdictOn, updated};
+
+const STEP_SIZE: f64 = 1.0;
+
+const STEP_POWER_SMOOTHING: f64 = 0.98;
+
+const MIN_STEP_FRACTION: f64 = 0.02;
+
+const REGULARIZATION: f64 = 1e-3;
+
+pub struct Updated {
+    pub far_power_mean: [f64; 257],
+    pub paths: Paths,
+    pub divergence_resets: u64,
+}
+
+// One slot's powers, bin by bin onto the sum.
+fn add_powers(acc: &mut [f64; 257], x: &[f64])
+    requires { ⌜ length (now x) ≡ 514 ⌝ }
+    ensures { λ _. ⌜ now (acc .exit) ≡ over 257 (λ k a. add binary64 a (powerAt (now (x .entry)) k)) (now (acc .entry)) ⌝ }
+{
+    let mut k = 0usize;
+    while k < 257 {
+        acc[k] = acc[k] + power(x, k);
+        k += 1;
+    }
+}
+
+// By slot and not by age: the source's order, and another one would round otherwise.
+fn far_power(xs: &[f64], parts: usize) -> [f64; 257]
+    requires { ⌜ (length (now xs) ≡ 514 * parts) × (parts ≤ 32) ⌝ }
+    ensures { λ r. ⌜ r ≡ farPowerTo (now (xs .entry)) parts ⌝ }
+{
+    let mut acc = [0.0f64; 257];
+    let mut p = 0usize;
+    while p < parts {
+        let a = 514 * p;
+        let e = a + 514;
+        add_powers(&mut acc, &xs[a..e]);
+        p += 1;
+    }
+    acc
+}
+
+// A bin below its usual power is stepped down by the square of its share.
+fn factor(mean: f64, power: f64) -> f64
+    ensures { λ r. ⌜ r ≡ factorOf mean power ⌝ }
+{
+    if 0.0 < mean {
+        let share = numbers::min(power / mean, 1.0);
+        return numbers::max(share * share, MIN_STEP_FRACTION);
+    }
+    1.0
+}
+
+fn rate(scale: f64, mean: f64, power: f64) -> f64
+    ensures { λ r. ⌜ r ≡ rateOf scale mean power ⌝ }
+{
+    STEP_SIZE * factor(mean, power) * scale / (power + REGULARIZATION)
+}
+
+fn rates(scale: f64, means: &[f64; 257], powers: &[f64; 257]) -> [f64; 257]
+    ensures { λ r. ⌜ r ≡ ratesOf scale (now (means .entry)) (now (powers .entry)) ⌝ }
+{
+    let mut t = [0.0f64; 257];
+    let mut k = 0usize;
+    while k < 257 {
+        t[k] = rate(scale, means[k], powers[k]);
+        k += 1;
+    }
+    t
+}
+
+fn new_means(powers: &[f64; 257], means: [f64; 257]) -> [f64; 257]
+    ensures { λ r. ⌜ r ≡ meansOf (now (powers .entry)) means ⌝ }
+{
+    let mut t = means;
+    let mut k = 0usize;
+    while k < 257 {
+        t[k] = smooth(STEP_POWER_SMOOTHING, t[k], powers[k]);
+        k += 1;
+    }
+    t
+}
+
+// conj(x) * e as independent products, so that nothing can be fused.
+fn gradient(x: &[f64], e: &[f64; 514], rates: &[f64; 257]) -> [f64; 514]
+    requires { ⌜ length (now x) ≡ 514 ⌝ }
+    ensures { λ r. ⌜ r ≡ gradientOf (now (x .entry)) (now (e .entry)) (now (rates .entry)) ⌝ }
+{
+    let zero = Complex::ZERO;
+    let mut g = [zero.re; 514];
+    let mut k = 0usize;
+    while k < 257 {
+        let u = get(x, k);
+        let v = get(e, k);
+        let z = Complex::new(u.re * v.re + u.im * v.im, u.re * v.im - u.im * v.re);
+        put(&mut g, k, z.scale(rates[k]));
+        k += 1;
+    }
+    g
+}
+
+// The lags beyond one block are the wrap-around and no taps: they are zeroed.
+fn cut(s: [f32; 512]) -> [f32; 512]
+    ensures { λ r. ⌜ r ≡ take 256 s ++ replicate 256 zero32 ⌝ }
+{
+    let mut t = s;
+    let mut i = 0usize;
+    while i < 256 {
+        t[256 + i] = 0.0;
+        i += 1;
+    }
+    t
+}
+
+fn constrain(tw: &[f64; 514], rev: &[u8; 256], tmp: &mut [f64; 1024], g: [f64; 514]) -> [f64; 514]
+    requires { ⌜ now tw ≡ recombination ⌝ }
+    requires { ⌜ now rev ≡ reversalTable ⌝ }
+    ensures { λ r. ⌜ r ≡ constrained g ⌝ }
+{
+    let s = samples(tw, rev, tmp, g);
+    let t = cut(s);
+    spectrum(tw, rev, tmp, t)
+}
+
+// One partition's weights with the gradient added, and whether all are finite.
+fn take_step(w: &mut [f64], g: &[f64; 514]) -> bool
+    requires { ⌜ length (now w) ≡ 514 ⌝ }
+    ensures { λ _. ⌜ now (w .exit) ≡ stepped (now (g .entry)) (now (w .entry)) ⌝ }
+    ensures { λ r. ⌜ r ≡ finiteTo (now (w .exit)) 514 ⌝ }
+{
+    let mut k = 0usize;
+    while k < 514 {
+        w[k] = w[k] + g[k];
+        k += 1;
+    }
+    all_finite(w)
+}
+
+fn all_finite(w: &[f64]) -> bool
+    requires { ⌜ length (now w) ≡ 514 ⌝ }
+    ensures { λ r. ⌜ r ≡ finiteTo (now (w .entry)) 514 ⌝ }
+{
+    let mut good = true;
+    let mut k = 0usize;
+    while k < 514 {
+        good = good & numbers::is_finite(w[k]);
+        k += 1;
+    }
+    good
+}
+
+// All weights are written before the verdict on them.
+fn learn(
+    tw: &[f64; 514],
+    rev: &[u8; 256],
+    tmp: &mut [f64; 1024],
+    parts: usize,
+    head: usize,
+    xs: &[f64],
+    e: &[f64; 514],
+    rates: &[f64; 257],
+    shadow: &mut [f64],
+) -> bool
+    requires { ⌜ now tw ≡ recombination ⌝ }
+    requires { ⌜ now rev ≡ reversalTable ⌝ }
+    requires { ⌜ (length (now shadow) ≡ 514 * parts) × (length (now xs) ≡ 514 * parts) × (head < parts) × (parts ≤ 32) ⌝ }
+    ensures { λ r. ⌜ record { weights = now (shadow .exit); good = r } ≡ learntTo parts head (now (xs .entry)) (now (e .entry)) (now (rates .entry)) (now (shadow .entry)) parts ⌝ }
+{
+    let mut good = true;
+    let mut p = 0usize;
+    while p < parts {
+        let slot = slot_of(head, parts, p);
+        let b = 514 * slot;
+        let be = b + 514;
+        let g = constrain(tw, rev, tmp, gradient(&xs[b..be], e, rates));
+        let a = 514 * p;
+        let ae = a + 514;
+        let fine = take_step(&mut shadow[a..ae], &g);
+        good = good & fine;
+        p += 1;
+    }
+    good
+}
+
+pub fn adapt_shadow(
+    tw: &[f64; 514],
+    rev: &[u8; 256],
+    tmp: &mut [f64; 1024],
+    on: bool,
+    parts: usize,
+    head: usize,
+    xs: &[f64],
+    error: [f32; 256],
+    scale: f64,
+    means: [f64; 257],
+    p: Paths,
+    resets: u64,
+    shadow: &mut [f64],
+) -> Updated
+    requires { ⌜ now tw ≡ recombination ⌝ }
+    requires { ⌜ now rev ≡ reversalTable ⌝ }
+    requires { ⌜ (length (now shadow) ≡ 514 * parts) × (length (now xs) ≡ 514 * parts) × (head < parts) × (parts ≤ 32) ⌝ }
+    ensures { λ r. ⌜ record { answer = r; buffer = now (shadow .exit) } ≡ updated on parts head (now (xs .entry)) error scale means p resets (now (shadow .entry)) ⌝ }
+{
+    if on {
+        let zeros = [0.0f32; 512];
+        let e = spectrum(tw, rev, tmp, slide(zeros, error));
+        let powers = far_power(xs, parts);
+        let steps = rates(scale, &means, &powers);
+        let next = new_means(&powers, means);
+        let good = learn(tw, rev, tmp, parts, head, xs, &e, &steps, shadow);
+        return judge(good, next, p, resets, shadow);
+    }
+    Updated {
+        far_power_mean: means,
+        paths: p,
+        divergence_resets: resets,
+    }
+}
+
+fn judge(good: bool, means: [f64; 257], p: Paths, resets: u64, shadow: &mut [f64]) -> Updated
+    ensures { λ r. ⌜ record { answer = r; buffer = now (shadow .exit) } ≡ verdictOn good means p resets (now (shadow .entry)) ⌝ }
+{
+    if good {
+        return Updated {
+            far_power_mean: means,
+            paths: p,
+            divergence_resets: resets,
+        };
+    }
+    let c = diverge_shadow(p, resets, shadow);
+    let q = c.paths;
+    Updated {
+        far_power_mean: means,
+        paths: q,
+        divergence_resets: c.divergence_resets,
+    }
+}
