@@ -16,7 +16,7 @@ mod inputs;
 mod reference;
 
 use fft::{read_det_cos, read_det_sin, read_recombination};
-use inputs::{bits, turned, Noise, DIGITS, SIGN, SIZES};
+use inputs::{bits, hash, turned, Noise, DIGITS, SIGN, SIZES};
 use reference::{Reference, DONE, POINTS, SAMPLES, SPECTRUM};
 use std::f64::consts::PI;
 
@@ -126,12 +126,6 @@ impl List {
         };
         answer.into()
     }
-}
-
-/// As crates/fft_cases/src/hash.rt has it.
-fn hash(numbers: &[f64]) -> u64 {
-    let start = 0x9e37_79b9_7f4a_7c15;
-    numbers.iter().fold(start, |h, x| turned(h ^ bits(*x)))
 }
 
 /// The lengths that a letter's functions take.

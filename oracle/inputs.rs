@@ -84,3 +84,20 @@ pub fn bits32(x: f32) -> u32 {
         x.to_bits()
     }
 }
+
+/// As `cases::hash_of` and `cases::hash_of32` have it.
+pub fn hash(numbers: &[f64]) -> u64 {
+    numbers.iter().fold(HASH, |h, x| turned(h ^ bits(*x)))
+}
+
+pub fn hash32(samples: &[f32]) -> u64 {
+    samples
+        .iter()
+        .fold(HASH, |h, x| turned(h ^ u64::from(bits32(*x))))
+}
+
+const HASH: u64 = 0x9e37_79b9_7f4a_7c15;
+
+pub fn halves([high, low]: [usize; 2]) -> u64 {
+    (high as u64) << 32 | low as u64
+}

@@ -6,12 +6,14 @@ mod canceller;
 mod error;
 mod inputs;
 mod kinds;
+mod recipe;
 mod rho_calls;
 mod rho_reference;
 mod rust_rho;
 
-use inputs::{bits, bits32, turned, Random};
+use inputs::{bits, bits32, halves, hash32, turned, Random};
 use kinds::*;
+use recipe::Recipe;
 use rho_calls::{Answer, RhoCanceller as State, Started};
 
 /// The sizes of the program's buffers, of which a call is lent the first part.
@@ -22,57 +24,6 @@ const MOST_PAIRS: usize = 4104;
 const KINDS: [Kind; 12] = [
     SILENCE, SOUND, FULL, QUARTER, LOUD, FAINT, LEAST, SUBNORMAL, HUGE, LARGE, INFINITE, NAN,
 ];
-
-/// How samples are made, here and in crates/rho_cases/src/made.rt: noise, with one number of its own at a place, if there is such a
-/// place.
-#[derive(Clone, Copy)]
-struct Recipe {
-    seed: u64,
-    kind: Kind,
-    place: u32,
-    mark: u32,
-}
-
-impl Recipe {
-    fn noise(seed: u64, kind: Kind) -> Recipe {
-        Recipe {
-            seed,
-            kind,
-            place: u32::MAX,
-            mark: 0,
-        }
-    }
-
-    /// One number all over.
-    fn of(x: f32) -> Recipe {
-        Recipe::noise(0, [x.to_bits().into(), 0])
-    }
-
-    fn marked(self, place: usize, x: f32) -> Recipe {
-        Recipe {
-            place: place as u32,
-            mark: x.to_bits(),
-            ..self
-        }
-    }
-
-    fn fields(self) -> [u64; 3] {
-        let [base, mask] = self.kind;
-        [
-            self.seed,
-            base << 32 | mask,
-            u64::from(self.place) << 32 | u64::from(self.mark),
-        ]
-    }
-
-    fn samples(self, count: usize) -> Vec<f32> {
-        let mut samples = samples(self.seed, self.kind, count);
-        if let Some(x) = samples.get_mut(self.place as usize) {
-            *x = f32::from_bits(self.mark);
-        }
-        samples
-    }
-}
 
 /// The lines so far, and what they leave to the next.
 struct List {
@@ -90,18 +41,6 @@ struct List {
 struct Out {
     hash: u64,
     shown: [u32; 2],
-}
-
-/// As `cases::hash_of32` has it.
-fn hash(samples: &[f32]) -> u64 {
-    let start = 0x9e37_79b9_7f4a_7c15;
-    samples
-        .iter()
-        .fold(start, |h, x| turned(h ^ u64::from(bits32(*x))))
-}
-
-fn halves([high, low]: [usize; 2]) -> u64 {
-    (high as u64) << 32 | low as u64
 }
 
 impl List {
@@ -124,8 +63,8 @@ impl List {
             bits(s.near_power),
             bits(s.residual_power),
             s.divergence_resets,
-            hash(&self.weights[..w]),
-            hash(&self.history[..h]),
+            hash32(&self.weights[..w]),
+            hash32(&self.history[..h]),
             out.hash,
             halves(out.shown.map(|n| n as usize)),
         ];
@@ -171,7 +110,7 @@ impl List {
             None => 0,
         };
         let after = Out {
-            hash: hash(&out[..room]),
+            hash: hash32(&out[..room]),
             shown: [shown(1), shown(pairs[0])],
         };
         let ([a, b, c], [d, e, f]) = (near.fields(), far.fields());

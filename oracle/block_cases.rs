@@ -1,0 +1,662 @@
+//! Blocks of Tau in a row, with what the Rust, completed by document 01 (oracle/rust), gives after each. `oracle/lists` writes them to
+//! crates/block_cases/stdin, which the program `block_cases` replays. Its src/main.rt says what the fields of a line are.
+
+mod branches;
+#[allow(dead_code)] // the Rust's text, whole
+mod canceller;
+mod config;
+mod error;
+#[allow(dead_code)]
+mod fft;
+mod house_detector;
+mod inputs;
+mod kinds;
+mod recipe;
+#[allow(dead_code)]
+mod rust_tau;
+mod taken;
+mod tau_calls;
+mod tau_reference;
+
+use branches::{Branches, Ran};
+use inputs::{bits, halves, hash, hash32, Noise, Random};
+use inputs::{DIGITS, DIGITS32, SIGN, SIGN32, SIZES};
+use kinds::*;
+use recipe::Recipe;
+use tau_calls::*;
+
+const MOST_PARTITIONS: usize = 32;
+
+/// 1/16 to 1/8, and 2^-7 to 2^-6.
+const LOW: Kind = [0x7b << 23, SIGN32 | DIGITS32];
+const LOWER: Kind = [0x78 << 23, SIGN32 | DIGITS32];
+
+/// Kinds of f64s, by base and mask: 2^-15 to 2 in size; the same, none negative; 2^1008 to 2^1023; subnormal; infinite or 1; NaN, not
+/// signalling (kinds.rs), or 1.5 to 2.
+const SOUND64: Kind = [0x3ff << 52, SIGN | SIZES | DIGITS];
+const POWER64: Kind = [0x3ff << 52, SIZES | DIGITS];
+const LARGE64: Kind = [0x7fe << 52, SIGN | SIZES | DIGITS];
+const SUBNORMAL64: Kind = [0, SIGN | DIGITS];
+const INFINITE64: Kind = [0x7ff << 52, SIGN | 0x400 << 52];
+const NAN64: Kind = [0xfff << 51, SIGN | 0x400 << 52 | DIGITS >> 1];
+
+/// The arrays, by the numbers that a line has for them.
+const NEAR_CARRY: u64 = 0;
+const FAR_CARRY: u64 = 1;
+const WINDOW: u64 = 2;
+const MEAN: u64 = 3;
+const ECHO: u64 = 4;
+const ERROR: u64 = 5;
+const GAIN: u64 = 6;
+const ERROR_WINDOW: u64 = 7;
+const SHADOW: u64 = 8;
+const OUTPUT: u64 = 9;
+const SPECTRA: u64 = 10;
+
+/// What near and far of a block are: noise each, and the echo's gain, which near has of far besides. No gain where it is +0.0.
+#[derive(Clone, Copy)]
+struct Sounds {
+    near: Recipe,
+    far: Recipe,
+    gain: f32,
+}
+
+/// What a line comes to but for the state and the buffers.
+struct Got {
+    outcome: Outcome,
+    block: [f32; BLOCK],
+}
+
+impl Got {
+    fn nothing() -> Got {
+        Got {
+            outcome: Outcome::NotRun,
+            block: [0.0; BLOCK],
+        }
+    }
+}
+
+/// The lines so far, and what they leave to the next.
+struct List {
+    text: String,
+    random: Random,
+    state: TauCanceller,
+    shadow: Vec<f64>,
+    output: Vec<f64>,
+    spectra: Vec<f64>,
+    branches: Branches,
+    blocks: [u32; MOST_PARTITIONS + 1],
+    /// Whether a line since the last creation set a part of the state, and whether the last block diverged.
+    is_foreign: bool,
+    has_diverged: bool,
+}
+
+impl List {
+    fn seed(&mut self) -> u64 {
+        self.random.word()
+    }
+
+    fn lent(&self) -> usize {
+        NUMBERS * self.state.partitions
+    }
+
+    /// A line, by its fields 0 to 7 and what it comes to.
+    fn line(&mut self, letter: char, given: [u64; 8], got: Got) {
+        let (s, n) = (&self.state, self.lent());
+        let q = &s.mic.suppressor;
+        let (outcome, leak) = match got.outcome {
+            Outcome::NotRun => (0, 0),
+            Outcome::NoMove => (1, 0),
+            Outcome::Rescue => (2, 0),
+            Outcome::Move(leak) => (3, bits(leak)),
+        };
+        let answered = [outcome, leak, hash32(&got.block)];
+        let arrays = [
+            hash32(&s.near_carry),
+            hash32(&s.far_carry),
+            hash32(&s.far.window),
+            hash(&s.mic.far_power_mean),
+            hash(&q.echo_power),
+            hash(&q.error_power),
+            hash(&q.gain),
+            hash32(&q.error_window),
+            hash(&self.shadow[..n]),
+            hash(&self.output[..n]),
+            hash(&self.spectra[..n]),
+        ];
+        let scalars = scalars(s);
+        let fields = given.iter().chain(&answered).chain(&scalars).chain(&arrays);
+        self.text.push(letter);
+        for field in fields {
+            self.text += &format!(" {field:016x}");
+        }
+        self.text.push('\n');
+    }
+
+    /// All as creation leaves it, but for the numbers of the state that are in no array.
+    fn new_with(&mut self, state: TauCanceller) {
+        self.state = state;
+        let n = self.lent();
+        self.shadow[..n].fill(0.0);
+        self.output[..n].fill(0.0);
+        self.spectra[..n].fill(0.0);
+        self.is_foreign = true;
+        self.has_diverged = false;
+        self.line('n', [0; 8], Got::nothing());
+    }
+
+    fn create(&mut self, partitions: usize, suppress: bool) {
+        self.new_with(tau_reference::fresh(partitions, suppress));
+        self.is_foreign = false;
+    }
+
+    /// Numbers of the state that are in no array.
+    fn set(&mut self, change: impl Fn(&mut TauCanceller)) {
+        change(&mut self.state);
+        self.is_foreign = true;
+        self.line('s', [0; 8], Got::nothing());
+    }
+
+    /// An array, of which one number is of its own where the array has the place.
+    fn make_with(&mut self, array: u64, kind: Kind, place: u64, mark: u64) {
+        let [base, mask] = kind;
+        let word = self.seed();
+        let n = self.lent();
+        let mut noise = Noise { word, base, mask };
+        let s = &mut self.state;
+        let q = &mut s.mic.suppressor;
+        let samples: Option<&mut [f32]> = match array {
+            NEAR_CARRY => Some(&mut s.near_carry),
+            FAR_CARRY => Some(&mut s.far_carry),
+            WINDOW => Some(&mut s.far.window),
+            ERROR_WINDOW => Some(&mut q.error_window),
+            _ => None,
+        };
+        if let Some(samples) = samples {
+            samples.fill_with(|| noise.sample());
+            if let Some(x) = samples.get_mut(place as usize) {
+                *x = f32::from_bits(mark as u32);
+            }
+        } else {
+            let numbers: &mut [f64] = match array {
+                MEAN => &mut s.mic.far_power_mean,
+                ECHO => &mut q.echo_power,
+                ERROR => &mut q.error_power,
+                GAIN => &mut q.gain,
+                SHADOW => &mut self.shadow[..n],
+                OUTPUT => &mut self.output[..n],
+                _ => &mut self.spectra[..n],
+            };
+            numbers.fill_with(|| noise.number());
+            if let Some(x) = numbers.get_mut(place as usize) {
+                *x = f64::from_bits(mark);
+            }
+        }
+        self.is_foreign = true;
+        let given = [word, base, mask, place, mark, array, 0, 0];
+        self.line('a', given, Got::nothing());
+    }
+
+    fn make(&mut self, array: u64, kind: Kind) {
+        self.make_with(array, kind, u64::MAX, 0);
+    }
+
+    /// Full blocks of a process call, or the one of flush.
+    fn run(&mut self, letter: char, sounds: Sounds, valid: usize, count: usize) {
+        let n = self.lent();
+        let mut got = Got::nothing();
+        let mut next = sounds;
+        for _ in 0..count {
+            let (near, far) = next.block(valid);
+            next = next.after();
+            let buffers = [&mut self.shadow, &mut self.output, &mut self.spectra];
+            let buffers = buffers.map(|buffer| &mut buffer[..n]);
+            let (before, adapt) = (self.state, letter == 'b');
+            let (answer, taken) =
+                tau_reference::run_block(&before, &near, &far, valid, adapt, buffers);
+            let ran = Ran {
+                before: &before,
+                after: &answer.state,
+                outcome: answer.outcome,
+                taken,
+                far: &far,
+                flushes: !adapt,
+                after_divergence: self.has_diverged,
+            };
+            self.branches.add(&ran, self.is_foreign);
+            self.blocks[before.partitions] += 1;
+            self.has_diverged = ran.diverged();
+            self.state = answer.state;
+            got = Got {
+                outcome: answer.outcome,
+                block: answer.block,
+            };
+        }
+        let ([a, b, c], [d, e, f]) = (sounds.near.fields(), sounds.far.fields());
+        let size = halves([valid, count]);
+        let gain = sounds.gain.to_bits().into();
+        self.line(letter, [a, b, c, d, e, f, size, gain], got);
+    }
+
+    fn noise(&mut self, near: Kind, far: Kind, gain: f32) -> Sounds {
+        Sounds {
+            near: Recipe::noise(self.seed(), near),
+            far: Recipe::noise(self.seed(), far),
+            gain,
+        }
+    }
+
+    fn blocks(&mut self, near: Kind, far: Kind, gain: f32, count: usize) {
+        let sounds = self.noise(near, far, gain);
+        self.run('b', sounds, BLOCK, count);
+    }
+
+    /// So many blocks, a line each.
+    fn each(&mut self, near: Kind, far: Kind, gain: f32, count: usize) {
+        for _ in 0..count {
+            self.blocks(near, far, gain, 1);
+        }
+    }
+
+    fn flush(&mut self, near: Kind, far: Kind, gain: f32, valid: usize) {
+        let sounds = self.noise(near, far, gain);
+        self.run('f', sounds, valid, 1);
+    }
+}
+
+impl Sounds {
+    /// Of the samples from `valid` on, which a flush pads, all are 0.0.
+    fn block(self, valid: usize) -> ([f32; BLOCK], [f32; BLOCK]) {
+        let mut near: [f32; BLOCK] = self.near.samples(BLOCK).try_into().unwrap();
+        let mut far: [f32; BLOCK] = self.far.samples(BLOCK).try_into().unwrap();
+        if self.gain.to_bits() != 0 {
+            for (n, f) in near.iter_mut().zip(&far) {
+                *n += self.gain * f;
+            }
+        }
+        near[valid..].fill(0.0);
+        far[valid..].fill(0.0);
+        (near, far)
+    }
+
+    /// Those of the next block: the hashes of this block's noise are its seeds.
+    fn after(self) -> Sounds {
+        let next = |recipe: Recipe| Recipe {
+            seed: hash32(&recipe.samples(BLOCK)),
+            ..recipe
+        };
+        Sounds {
+            near: next(self.near),
+            far: next(self.far),
+            gain: self.gain,
+        }
+    }
+}
+
+/// The numbers of the state that are in no array, as fields 11 to 27.
+fn scalars(s: &TauCanceller) -> [u64; 17] {
+    let m = &s.mic;
+    let (d, p) = (m.detector, m.paths);
+    let flags = [
+        s.suppress,
+        s.far.far_active,
+        d.double_talk,
+        d.dtd_collapsed,
+        d.protect_output,
+    ];
+    let flags = flags
+        .iter()
+        .rev()
+        .fold(0, |sum, is| 2 * sum + usize::from(*is));
+    [
+        halves([s.partitions, s.carried]),
+        halves([s.far.head, flags]),
+        bits(s.far.far_energy_peak),
+        halves([d.dtd_blocks as usize, p.rescue_streak as usize]),
+        bits(d.dtd_baseline),
+        bits(d.dtd_deviation),
+        bits(d.coherence_smooth),
+        bits(d.step_scale),
+        bits(p.shadow_error_power),
+        bits(p.output_error_power),
+        p.quiet_streak.into(),
+        bits(m.guard.divergence_near_power),
+        bits(m.guard.divergence_out_power),
+        bits(m.powers.near_power),
+        bits(m.powers.residual_power),
+        m.transfers,
+        m.divergence_resets,
+    ]
+}
+
+fn main() {
+    let buffer = vec![0.0; NUMBERS * MOST_PARTITIONS];
+    let mut list = List {
+        text: String::new(),
+        random: Random(0x2545_f491_4f6c_dd1d),
+        state: tau_reference::fresh(1, true),
+        shadow: buffer.clone(),
+        output: buffer.clone(),
+        spectra: buffer,
+        branches: Branches::none(),
+        blocks: [0; MOST_PARTITIONS + 1],
+        is_foreign: false,
+        has_diverged: false,
+    };
+    silence(&mut list);
+    for partitions in [1, 2, 4, 13] {
+        stream(&mut list, partitions, partitions != 2);
+    }
+    most_partitions(&mut list);
+    talk_alone(&mut list);
+    rescue(&mut list);
+    overflow(&mut list);
+    counters(&mut list);
+    edges(&mut list);
+    arrays(&mut list);
+    numbers(&mut list);
+    samples(&mut list);
+    list.branches.tell();
+    for (partitions, blocks) in list.blocks.iter().enumerate() {
+        if *blocks > 0 {
+            eprintln!("{blocks} blocks of P = {partitions}");
+        }
+    }
+    print!("{}", list.text);
+}
+
+/// Sound in the room alone, far being zeros of either sign; then the first far sound, at a block's end.
+fn silence(list: &mut List) {
+    for partitions in [1, 3] {
+        list.create(partitions, true);
+        list.each(SOUND, SILENCE, 0.0, 2);
+        for valid in [1, 255] {
+            list.flush(SOUND, SILENCE, 0.0, valid);
+        }
+        list.blocks(SILENCE, SILENCE, 0.0, 2);
+        let mut sounds = list.noise(SOUND, SILENCE, 0.0);
+        sounds.far = sounds.far.marked(255, 1.0);
+        list.run('b', sounds, BLOCK, 1);
+        list.each(SOUND, SILENCE, 0.0, 2);
+        list.flush(SOUND, SILENCE, 0.0, 100);
+    }
+}
+
+/// An echo to learn, from creation past the first moves; the echo turned and louder, to which the output adds, until the guard halves it;
+/// talk over it; far silent and faint; flushes; and the echo again.
+fn stream(list: &mut List, partitions: usize, suppress: bool) {
+    list.create(partitions, suppress);
+    list.each(QUARTER, FULL, 0.5, 3);
+    list.flush(QUARTER, FULL, 0.5, 77);
+    list.blocks(QUARTER, FULL, 0.5, 29);
+    list.blocks(QUARTER, FULL, 0.5, 29);
+    list.each(QUARTER, FULL, 0.5, 8);
+    list.blocks(QUARTER, FULL, 0.5, 9);
+    list.each(QUARTER, FULL, 0.5, 3);
+    list.blocks(LOW, FULL, -2.0, 5);
+    list.each(LOW, FULL, -2.0, 3);
+    list.each(LOUD, SOUND, -2.0, 2);
+    list.each(LOW, SILENCE, 0.0, 1);
+    list.blocks(LOW, FAINT, -2.0, 2);
+    list.flush(LOW, SOUND, -2.0, 1);
+    list.flush(LOW, SOUND, -2.0, 200);
+    list.blocks(LOW, SOUND, -2.0, 12);
+}
+
+/// The most partitions, from a state that is all but established.
+fn most_partitions(list: &mut List) {
+    let mut state = tau_reference::fresh(32, true);
+    state.far.head = 29;
+    state.mic.detector.dtd_blocks = 60;
+    state.mic.detector.coherence_smooth = 0.9;
+    list.new_with(state);
+    list.each(LOW, FULL, 0.5, 4);
+    list.blocks(LOW, FULL, 0.5, 6);
+    list.each(LOW, FULL, 0.5, 2);
+    list.flush(LOW, FULL, 0.5, 9);
+    list.blocks(LOUD, FULL, 0.5, 2);
+}
+
+/// Talk, in which far is not heard: the detector protects it.
+fn talk_alone(list: &mut List) {
+    list.create(1, true);
+    list.blocks(SOUND, SOUND, 0.0, 32);
+    list.blocks(SOUND, SOUND, 0.0, 31);
+    list.each(SOUND, SOUND, 0.0, 6);
+    list.each(SOUND, SILENCE, 0.0, 1);
+    list.blocks(SILENCE, SOUND, 0.0, 20);
+    list.each(SILENCE, SOUND, 0.0, 1);
+    list.blocks(FAINT, SOUND, 0.5, 10);
+}
+
+/// An echo without noise, learnt well; a loud block while far is silent, which spoils the shadow; then the echo again.
+fn rescue(list: &mut List) {
+    list.create(2, true);
+    for _ in 0..4 {
+        list.blocks(SILENCE, SOUND, 0.5, 30);
+    }
+    list.each(LOUD, SILENCE, 0.0, 1);
+    list.each(SILENCE, SOUND, 0.5, 12);
+}
+
+/// Samples near the largest f32: an echo that turns, which no f32 error holds, and steps that no f32 holds.
+fn overflow(list: &mut List) {
+    let huge = 1.9 * 2f32.powi(126);
+    list.create(1, true);
+    list.blocks(SILENCE, FULL, huge, 64);
+    list.blocks(SILENCE, FULL, huge, 20);
+    list.each(SILENCE, FULL, -huge, 2);
+    list.flush(SILENCE, FULL, huge, 60);
+    list.each(SILENCE, FULL, huge, 2);
+    list.flush(SILENCE, FULL, -huge, 60);
+    list.create(2, true);
+    list.each(HUGE, LOWER, 0.0, 2);
+    list.flush(HUGE, LOWER, 0.0, 60);
+    list.each(HUGE, HUGE, 0.0, 3);
+    list.each(LOW, SOUND, 0.5, 2);
+}
+
+/// The three counters that stay at their largest number, from just below it: moves, then one in a block with the guard, then both
+/// filters diverging.
+fn counters(list: &mut List) {
+    list.new_with(established(1));
+    list.blocks(LOWER, FULL, 0.5, 12);
+    list.set(|s| {
+        s.mic.paths.quiet_streak = u32::MAX - 1;
+        s.mic.paths.output_error_power = 1e6;
+        s.mic.transfers = u64::MAX - 1;
+        s.mic.divergence_resets = u64::MAX - 1;
+    });
+    list.each(LOWER, FULL, 0.5, 3);
+    list.set(|s| {
+        s.mic.guard.divergence_out_power = 1e6;
+        s.mic.divergence_resets = u64::MAX;
+    });
+    list.each(LOWER, FULL, 0.5, 1);
+    for resets in [u64::MAX - 1, u64::MAX] {
+        list.set(|s| s.mic.divergence_resets = resets);
+        list.make(SHADOW, INFINITE64);
+        list.make(OUTPUT, INFINITE64);
+        list.each(LOW, SOUND, 0.5, 1);
+    }
+}
+
+/// As after an echo that was learnt, but with all arrays fresh.
+fn established(partitions: usize) -> TauCanceller {
+    let mut s = tau_reference::fresh(partitions, true);
+    s.far.far_active = true;
+    s.far.far_energy_peak = 50.0;
+    let m = &mut s.mic;
+    m.detector = Detector {
+        dtd_blocks: 64,
+        dtd_baseline: 0.6,
+        dtd_deviation: 0.01,
+        coherence_smooth: 0.9,
+        step_scale: 1.0,
+        ..Detector::default()
+    };
+    m.paths = Paths {
+        shadow_error_power: 1.0,
+        output_error_power: 2.0,
+        quiet_streak: 5,
+        rescue_streak: 0,
+    };
+    m.guard.divergence_near_power = 4.0;
+    m.guard.divergence_out_power = 1.0;
+    s
+}
+
+/// Where a test has its bound, and where it sees a NaN. Near is silent and the weights are 0, so that errors, energies and c are too.
+fn edges(list: &mut List) {
+    let states: [fn(&mut TauCanceller); 9] = [
+        // the shadow's power is 4 times the output's; and error and echo are without power
+        |s| s.mic.paths = Paths::default(),
+        // quiet for long enough, and an output power that is not above 0
+        |s| {
+            s.mic.detector.dtd_baseline = 0.0;
+            s.mic.paths.output_error_power = -1e6;
+        },
+        // c lies by the margin below the baseline
+        |s| {
+            s.mic.detector.dtd_baseline = 0.03;
+            s.mic.detector.dtd_deviation = 0.0;
+        },
+        |s| s.mic.detector.dtd_deviation = f64::NAN,
+        // 0.8 of it is 0.2
+        |s| s.mic.detector.coherence_smooth = 0.25,
+        |s| s.mic.detector.coherence_smooth = f64::NAN,
+        |s| s.far.far_energy_peak = f64::NAN,
+        |s| s.far.far_energy_peak = f64::INFINITY,
+        // the output's power is 1.05 times near's
+        |s| {
+            s.mic.guard.divergence_near_power = 1.0;
+            s.mic.guard.divergence_out_power = 1.05;
+        },
+    ];
+    for change in states {
+        let mut state = established(1);
+        change(&mut state);
+        list.new_with(state);
+        list.each(SILENCE, SOUND, 0.0, 1);
+    }
+    // the target is the gain
+    list.new_with(established(1));
+    list.make(GAIN, [0.1f64.to_bits(), 0]);
+    list.make(ECHO, [1e9f64.to_bits(), 0]);
+    list.each(LOW, SOUND, 0.0, 1);
+    // amid a rescue streak: the shadow diverging in a flush, which compares nothing after it; the output diverging alone; and the guard
+    // in a flush, whose padded places keep the suppressor's samples
+    let mut state = established(1);
+    state.mic.paths.rescue_streak = 5;
+    list.new_with(state);
+    list.make(SHADOW, INFINITE64);
+    list.flush(LOW, SOUND, 0.5, 50);
+    list.new_with(state);
+    list.make(SHADOW, SOUND64);
+    list.make(OUTPUT, INFINITE64);
+    list.each(LOW, SOUND, 0.5, 1);
+    state.mic.guard.divergence_out_power = 1e9;
+    list.new_with(state);
+    list.make(OUTPUT, SOUND64);
+    list.flush(LOW, SOUND, 0.5, 50);
+}
+
+/// Every array with numbers of every kind, and with one number that is none, at its end.
+fn arrays(list: &mut List) {
+    for array in [WINDOW, ERROR_WINDOW] {
+        for kind in [SOUND, LARGE, INFINITE, NAN] {
+            list.new_with(established(2));
+            list.make(array, kind);
+            list.blocks(LOW, SOUND, 0.5, 2);
+        }
+    }
+    for array in [MEAN, ECHO, ERROR, GAIN, SHADOW, OUTPUT, SPECTRA] {
+        for kind in [POWER64, LARGE64, INFINITE64, NAN64] {
+            list.new_with(established(2));
+            list.make(array, kind);
+            list.blocks(LOW, SOUND, 0.5, 2);
+        }
+        let last = match array {
+            MEAN | ECHO | ERROR | GAIN => BINS - 1,
+            _ => 2 * NUMBERS - 1,
+        };
+        list.new_with(established(2));
+        list.make_with(array, SUBNORMAL64, last as u64, f64::NAN.to_bits());
+        list.flush(LOW, SOUND, 0.5, 33);
+        list.each(LOW, SOUND, 0.5, 1);
+    }
+    // a block leaves the carry alone, whatever is in it
+    list.make(NEAR_CARRY, NAN);
+    list.make(FAR_CARRY, ANY);
+    list.set(|s| s.carried = 255);
+    list.each(LOW, SOUND, 0.5, 1);
+}
+
+/// The numbers of a state at random, each of those that no block leaves there.
+fn numbers(list: &mut List) {
+    let odd = [
+        0.0,
+        -0.0,
+        0.2,
+        0.5,
+        1.0,
+        -1.0,
+        1e3,
+        1e300,
+        f64::MAX,
+        f64::from_bits(1),
+        f64::INFINITY,
+        f64::NEG_INFINITY,
+        f64::NAN,
+    ];
+    for turn in 0..12 {
+        let mut s = established(1 + turn % 3);
+        s.suppress = list.random.below(4) > 0;
+        s.far.head = list.random.below(s.partitions);
+        s.far.far_active = list.random.below(2) > 0;
+        s.mic.detector.double_talk = list.random.below(2) > 0;
+        s.mic.detector.dtd_collapsed = list.random.below(2) > 0;
+        s.mic.detector.protect_output = list.random.below(2) > 0;
+        s.mic.detector.dtd_blocks = list.random.one_of(&[0, 62, 63, 64, 64]);
+        s.mic.paths.quiet_streak = list.random.one_of(&[0, 4, 5, 6]);
+        s.mic.paths.rescue_streak = list.random.one_of(&[0, 1, 6, 7]);
+        let m = &mut s.mic;
+        for number in [
+            &mut s.far.far_energy_peak,
+            &mut m.detector.dtd_baseline,
+            &mut m.detector.dtd_deviation,
+            &mut m.detector.coherence_smooth,
+            &mut m.detector.step_scale,
+            &mut m.paths.shadow_error_power,
+            &mut m.paths.output_error_power,
+            &mut m.guard.divergence_near_power,
+            &mut m.guard.divergence_out_power,
+            &mut m.powers.near_power,
+            &mut m.powers.residual_power,
+        ] {
+            if list.random.below(3) == 0 {
+                *number = list.random.one_of(&odd);
+            }
+        }
+        list.new_with(s);
+        list.make(SHADOW, SOUND64);
+        list.make(OUTPUT, SOUND64);
+        list.blocks(LOW, SOUND, 0.5, 1 + turn % 2);
+    }
+}
+
+/// Samples as a foreign carry may have them, in full blocks and in a flush, and flushes of several lengths.
+fn samples(list: &mut List) {
+    for kind in [SUBNORMAL, HUGE, INFINITE, NAN] {
+        list.new_with(established(2));
+        list.each(kind, SOUND, 0.0, 1);
+        list.each(LOW, kind, 0.0, 1);
+        list.flush(kind, kind, 0.0, 200);
+        list.each(LOW, SOUND, 0.5, 1);
+    }
+    list.new_with(established(2));
+    for valid in [1, 2, 128, 255] {
+        list.flush(LOW, SOUND, 0.5, valid);
+        list.each(LOW, SOUND, 0.5, 1);
+    }
+}

@@ -1,0 +1,192 @@
+//! How often blocks took each branch, and whether every one was taken.
+
+use crate::taken::Taken;
+use crate::tau_calls::{Outcome, TauCanceller};
+
+/// All that a list has to reach, in the order of the block's steps.
+const ALL: [&str; 51] = [
+    "1 partition",
+    "2 partitions",
+    "4 partitions",
+    "13 partitions",
+    "32 partitions",
+    "far silent, before any sound",
+    "far silent, after sound",
+    "far faint, not active",
+    "far active, not established",
+    "established",
+    "count held at 64",
+    "shadow diverged in step 2",
+    "output diverged",
+    "both diverged in steps 2 and 3",
+    "c is 0",
+    "c is between",
+    "c is 1",
+    "collapsed, established",
+    "not collapsed, established",
+    "protected",
+    "not protected, established",
+    "verdict kept, far not active",
+    "step scale 0.01",
+    "step scale between",
+    "step scale 1, established",
+    "compared",
+    "compared, the shadow having diverged",
+    "rescue streak broken",
+    "rescue",
+    "quiet streak below 6",
+    "move, leak below 0.75",
+    "move, leak 0.75",
+    "quiet, without a move",
+    "step factor 0.02",
+    "shadow diverged in the update",
+    "suppressor off",
+    "suppressor on",
+    "suppressor standing down",
+    "gain rising",
+    "gain falling",
+    "target 0.1",
+    "guard",
+    "guard, the output moved",
+    "two resets",
+    "flush, before any sound",
+    "flush, with sound",
+    "flush, after a divergence",
+    "flush, diverging",
+    "quiet streak held",
+    "transfers held",
+    "resets held",
+];
+
+/// What one block was, for its branches.
+pub struct Ran<'a> {
+    pub before: &'a TauCanceller,
+    pub after: &'a TauCanceller,
+    pub outcome: Outcome,
+    pub taken: Taken,
+    pub far: &'a [f32],
+    pub flushes: bool,
+    pub after_divergence: bool,
+}
+
+impl Ran<'_> {
+    pub fn diverged(&self) -> bool {
+        let t = self.taken;
+        t.shadow_diverged || t.update_diverged || t.diverged
+    }
+
+    fn took(&self, branch: &str) -> bool {
+        let (t, before, after) = (self.taken, &self.before.mic, &self.after.mic);
+        let (d, paths) = (after.detector, after.paths);
+        let active = t.far_is_active;
+        let established = active && d.dtd_blocks == 64;
+        let silent = self.far.iter().all(|x| *x == 0.0);
+        let sounded = self.after.far.far_active;
+        let scale = d.step_scale;
+        let partitions = self.after.partitions;
+        match branch {
+            "1 partition" => partitions == 1,
+            "2 partitions" => partitions == 2,
+            "4 partitions" => partitions == 4,
+            "13 partitions" => partitions == 13,
+            "32 partitions" => partitions == 32,
+            "far silent, before any sound" => !sounded,
+            "far silent, after sound" => silent && sounded,
+            "far faint, not active" => !silent && !active,
+            "far active, not established" => active && !established,
+            "established" => established,
+            "count held at 64" => active && before.detector.dtd_blocks == 64,
+            "shadow diverged in step 2" => t.shadow_diverged,
+            "output diverged" => t.diverged,
+            "both diverged in steps 2 and 3" => t.shadow_diverged && t.diverged,
+            "c is 0" => t.likeness == Some(0.0),
+            "c is between" => t.likeness.is_some_and(|c| 0.0 < c && c < 1.0),
+            "c is 1" => t.likeness == Some(1.0),
+            "collapsed, established" => established && d.dtd_collapsed,
+            "not collapsed, established" => established && !d.dtd_collapsed,
+            "protected" => established && d.protect_output,
+            "not protected, established" => established && !d.protect_output,
+            "verdict kept, far not active" => !active && d.dtd_collapsed,
+            "step scale 0.01" => established && scale == 0.01,
+            "step scale between" => established && 0.01 < scale && scale < 1.0,
+            "step scale 1, established" => established && scale == 1.0,
+            "compared" => t.compared,
+            "compared, the shadow having diverged" => t.compared && t.shadow_diverged,
+            "rescue streak broken" => {
+                t.compared
+                    && !t.rescued
+                    && before.paths.rescue_streak > 0
+                    && paths.rescue_streak == 0
+            }
+            "rescue" => self.outcome == Outcome::Rescue,
+            "quiet streak below 6" => t.compared && (1..6).contains(&paths.quiet_streak),
+            "move, leak below 0.75" => t.leak.is_some_and(|leak| leak < 0.75),
+            "move, leak 0.75" => t.leak == Some(0.75),
+            "quiet, without a move" => {
+                t.compared && paths.quiet_streak >= 6 && self.outcome == Outcome::NoMove
+            }
+            "step factor 0.02" => t.least_step,
+            "shadow diverged in the update" => t.update_diverged,
+            "suppressor off" => sounded && !self.after.suppress,
+            "suppressor on" => t.suppressed && !d.protect_output,
+            "suppressor standing down" => t.suppressed && d.protect_output,
+            "gain rising" => t.rising,
+            "gain falling" => t.falling,
+            "target 0.1" => t.least_gain,
+            "guard" => t.guarded,
+            "guard, the output moved" => t.guarded && t.leak.is_some(),
+            "two resets" => {
+                [t.shadow_diverged, t.update_diverged, t.diverged, t.guarded]
+                    .map(u32::from)
+                    .iter()
+                    .sum::<u32>()
+                    == 2
+            }
+            "flush, before any sound" => self.flushes && !sounded,
+            "flush, with sound" => self.flushes && active,
+            "flush, after a divergence" => self.flushes && self.after_divergence,
+            "flush, diverging" => self.flushes && self.diverged(),
+            "quiet streak held" => {
+                t.compared
+                    && before.paths.quiet_streak == u32::MAX
+                    && paths.quiet_streak == u32::MAX
+            }
+            "transfers held" => t.leak.is_some() && before.transfers == u64::MAX,
+            "resets held" => (self.diverged() || t.guarded) && before.divergence_resets == u64::MAX,
+            _ => unreachable!(),
+        }
+    }
+}
+
+pub struct Branches {
+    /// From creation, and where a line before set a part of the state.
+    counts: [[u32; 2]; ALL.len()],
+}
+
+impl Branches {
+    pub fn none() -> Branches {
+        Branches {
+            counts: [[0; 2]; ALL.len()],
+        }
+    }
+
+    pub fn add(&mut self, ran: &Ran, is_foreign: bool) {
+        for (branch, count) in ALL.iter().zip(&mut self.counts) {
+            count[usize::from(is_foreign)] += u32::from(ran.took(branch));
+        }
+    }
+
+    /// To standard error, and an end with status 1 where a branch has no block.
+    pub fn tell(&self) {
+        eprintln!("{:40} {:>9} {:>9}", "blocks", "own state", "foreign");
+        for (branch, [own, foreign]) in ALL.iter().zip(self.counts) {
+            eprintln!("{branch:40} {own:>9} {foreign:>9}");
+        }
+        for (branch, count) in ALL.iter().zip(self.counts) {
+            if count == [0, 0] {
+                eprintln!("no block takes the branch: {branch}");
+                std::process::exit(1);
+            }
+        }
+    }
+}

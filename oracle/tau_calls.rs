@@ -1,0 +1,102 @@
+//! What Tau's block is given and answers, for the port and for the Rust: the structs of crates/tau_block, as C lays them out.
+
+#![allow(dead_code)] // a driver uses a part
+
+pub const BLOCK: usize = 256;
+pub const BINS: usize = 257;
+/// Of a partition or a ring slot: its bins, real part then imaginary.
+pub const NUMBERS: usize = 2 * BINS;
+
+#[repr(C)]
+#[derive(Clone, Copy, Debug)]
+pub struct TauCanceller {
+    pub partitions: usize,
+    pub suppress: bool,
+    pub carried: usize,
+    pub near_carry: [f32; BLOCK],
+    pub far_carry: [f32; BLOCK],
+    pub far: Far,
+    pub mic: Mic,
+}
+
+#[repr(C)]
+#[derive(Clone, Copy, Debug)]
+pub struct Far {
+    pub window: [f32; 2 * BLOCK],
+    pub head: usize,
+    pub far_active: bool,
+    pub far_energy_peak: f64,
+}
+
+#[repr(C)]
+#[derive(Clone, Copy, Debug)]
+pub struct Mic {
+    pub detector: Detector,
+    pub paths: Paths,
+    pub far_power_mean: [f64; BINS],
+    pub suppressor: Suppressor,
+    pub guard: Guard,
+    pub powers: Powers,
+    pub transfers: u64,
+    pub divergence_resets: u64,
+}
+
+#[repr(C)]
+#[derive(Clone, Copy, Debug, Default)]
+pub struct Detector {
+    pub double_talk: bool,
+    pub dtd_collapsed: bool,
+    pub protect_output: bool,
+    pub dtd_blocks: u32,
+    pub dtd_baseline: f64,
+    pub dtd_deviation: f64,
+    pub coherence_smooth: f64,
+    pub step_scale: f64,
+}
+
+#[repr(C)]
+#[derive(Clone, Copy, Debug, Default)]
+pub struct Paths {
+    pub shadow_error_power: f64,
+    pub output_error_power: f64,
+    pub quiet_streak: u32,
+    pub rescue_streak: u32,
+}
+
+#[repr(C)]
+#[derive(Clone, Copy, Debug)]
+pub struct Suppressor {
+    pub echo_power: [f64; BINS],
+    pub error_power: [f64; BINS],
+    pub gain: [f64; BINS],
+    pub error_window: [f32; 2 * BLOCK],
+}
+
+#[repr(C)]
+#[derive(Clone, Copy, Debug, Default)]
+pub struct Guard {
+    pub divergence_near_power: f64,
+    pub divergence_out_power: f64,
+}
+
+#[repr(C)]
+#[derive(Clone, Copy, Debug, Default)]
+pub struct Powers {
+    pub near_power: f64,
+    pub residual_power: f64,
+}
+
+#[derive(Clone, Copy, Debug, PartialEq)]
+pub enum Outcome {
+    NotRun,
+    NoMove,
+    Rescue,
+    Move(f64),
+}
+
+#[derive(Clone, Copy, Debug)]
+pub struct Blocked {
+    pub state: TauCanceller,
+    pub block: [f32; BLOCK],
+    pub outcome: Outcome,
+}
