@@ -1,0 +1,165 @@
+// Runs Tau's blocks on a list of them, and compares with what the Rust gave (oracle/block_cases.rs). A line is a step on what the lines
+// before it left: the state and the three buffers are kept from line to line.
+//
+// A line has 39 fields. A half is 8 digits of a field. The letters are those in steps.rt, and what fields 0 to 7 are for each.
+//
+//     8         the outcome of the last block: 0 none run, 1 no move, 2 a rescue, 3 a move
+//     9         its leak, and 0 where it is no move
+//     10        the hash of what it delivers, all 256 samples; where none is run, of zeros
+//     11        halves: partitions, carried
+//     12        halves: head, flags: 1 suppress, 2 far_active, 4 double_talk, 8 dtd_collapsed, 16 protect_output
+//     13        far_energy_peak
+//     14        halves: dtd_blocks, rescue_streak
+//     15 to 18  dtd_baseline, dtd_deviation, coherence_smooth, step_scale
+//     19, 20    shadow_error_power, output_error_power
+//     21        quiet_streak
+//     22, 23    divergence_near_power, divergence_out_power
+//     24, 25    near_power, residual_power
+//     26, 27    transfers, divergence_resets
+//     28 to 35  the hashes of near_carry, far_carry, window, far_power_mean, echo_power, error_power, gain, error_window
+//     36 to 38  the hashes of the shadow weights, the output weights and the far spectra, as many as the partitions have
+//
+// A field without a use is 0. A number of the state is the bits of an f64, and every NaN the same.
+mod made;
+mod state;
+mod steps;
+
+use cases::Tally;
+use state::Got;
+use state::fresh;
+use state::numbers_of;
+use steps::begun;
+use steps::done;
+use tau_steps::state::TauCanceller;
+ghost use mathlib.Core.Path.{_≡_};
+ghost use lib.ListN.{length};
+
+// A letter, 39 times a blank and 16 digits, and the line's end.
+const SIZE: usize = 665;
+
+// What a line leaves to the next one, besides the buffers.
+pub struct Turn {
+    pub tally: Tally,
+    pub state: TauCanceller,
+}
+
+// A proved loop has to end, and nothing says that the input does. So it counts its turns down, from a
+// number that no list uses up.
+fn main() {
+    let mut block = io::large_buffer();
+    let mut shadow = [0.0f64; 16448];
+    let mut output = [0.0f64; 16448];
+    let mut spectra = [0.0f64; 16448];
+    let mut state = fresh();
+    let mut source = cases::fill(SIZE, &mut block);
+    let mut tally = cases::none();
+    let mut turns = u64::MAX;
+    while turns > 0 && SIZE <= source.left {
+        let at = source.at;
+        let end = at + SIZE;
+        let turn = judged(
+            tally,
+            state,
+            &block[at..end],
+            &mut shadow,
+            &mut output,
+            &mut spectra,
+        );
+        tally = turn.tally;
+        let after = turn.state;
+        state = after;
+        source = cases::next(source, SIZE, &mut block);
+        turns -= 1;
+    }
+    cases::verdict(b"block_cases", tally, source.left);
+}
+
+// The tally with one line more, and the state after it.
+fn judged(
+    tally: Tally,
+    state: TauCanceller,
+    line: &[u8],
+    shadow: &mut [f64],
+    output: &mut [f64],
+    spectra: &mut [f64],
+) -> Turn
+    requires { ⌜ length (now line) ≡ 665 ⌝ }
+    requires { ⌜ length (now shadow) ≡ 16448 ⌝ }
+    requires { ⌜ length (now output) ≡ 16448 ⌝ }
+    requires { ⌜ length (now spectra) ≡ 16448 ⌝ }
+{
+    if !cases::is_case(line) {
+        return refused(tally, state);
+    }
+    let start = begun(line, state);
+    let partitions = start.partitions;
+    if 32 < partitions {
+        return refused(tally, state);
+    }
+    let lent = 514 * partitions;
+    taken(
+        tally,
+        start,
+        line,
+        &mut shadow[..lent],
+        &mut output[..lent],
+        &mut spectra[..lent],
+    )
+}
+
+// The same, with what is lent to the step.
+fn taken(
+    tally: Tally,
+    state: TauCanceller,
+    line: &[u8],
+    shadow: &mut [f64],
+    output: &mut [f64],
+    spectra: &mut [f64],
+) -> Turn
+    requires { ⌜ length (now line) ≡ 665 ⌝ }
+{
+    let got = done(line, state, shadow, output, spectra);
+    finished(
+        tally,
+        line,
+        got,
+        cases::hash_of(shadow),
+        cases::hash_of(output),
+        cases::hash_of(spectra),
+    )
+}
+
+// The same, with what the step came to.
+fn finished(tally: Tally, line: &[u8], got: Got, shadow: u64, output: u64, spectra: u64) -> Turn
+    requires { ⌜ length (now line) ≡ 665 ⌝ }
+{
+    let state = got.state;
+    if !got.is_known {
+        return refused(tally, state);
+    }
+    let numbers = numbers_of(got, shadow, output, spectra);
+    Turn {
+        tally: compared(tally, line, numbers),
+        state,
+    }
+}
+
+fn refused(tally: Tally, state: TauCanceller) -> Turn {
+    Turn {
+        tally: cases::refuse(tally),
+        state,
+    }
+}
+
+// One judgement a line, by the first number that differs.
+fn compared(tally: Tally, line: &[u8], got: [u64; 31]) -> Tally
+    requires { ⌜ length (now line) ≡ 665 ⌝ }
+{
+    for k in 0..31usize {
+        let want = cases::field(line, 8 + k);
+        if got[k] != want {
+            return cases::judge(tally, got[k], want);
+        }
+    }
+    cases::judge(tally, 0, 0)
+}
