@@ -17,7 +17,6 @@ use lib.Ieee.{Float, nan, inf, fin, binary64, unlike, up, down, round, sum, add,
 use lib.Ieee.Positive.{positive, above, first-pos}
 use Rattle.laws.specs.Choice.{pick-if}
 use Rattle.laws.specs.Kinds.{All, all-get-or, all-replicate, all-over, iter-keeps}
-use Rattle.laws.specs.Parts.{part}
 use Rattle.numbers.specs.Finite.{isFinite}
 use Rattle.numbers.specs.Order.{minOf, maxOf, clampOf}
 use Rattle.numbers.specs.Ranges.{Unit, Power}
@@ -78,7 +77,7 @@ pub far-powers : (xs : List Float) (n : ℕ) → All Power (farPowerTo xs n)
 unfolding farPowerTo ofBits
 far-powers xs n =
     iter-keeps (All Power) _ (replicate 257 zero64) n (all-replicate 257 zero64 (record { power = tt }))
-    (λ p acc _ h. all-over 257 _ h (λ k a _ g. power-add binary64 g (bin-power (part 514 p xs) k)))
+    (λ p acc _ h. all-over 257 _ h (λ k a _ g. power-add binary64 g (bin-power _ k)))
 
 -- So of every bin, whatever the spectra and the means hold.
 pub step-factor : (xs means : List Float) (parts k : ℕ) → Factor (factorOf (getD means k nan) (getD (farPowerTo xs parts) k nan))

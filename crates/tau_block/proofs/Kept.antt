@@ -42,7 +42,7 @@ use Rattle.tau_block.specs.declared.block.Filtered.{Filtered}
 -- ---- the ring
 
 -- the next slot is one of the ring's
-next-slot : (parts head : ℕ) → head < parts → nextSlot parts head < parts
+pub next-slot : (parts head : ℕ) → head < parts → nextSlot parts head < parts
 unfolding nextSlot
 next-slot parts head h =
     pick-if (λ r. r < parts) (eqb (head + 1) parts) (λ _. omega arith)
@@ -154,7 +154,7 @@ learnt-length parts head xs e rates p l b h =
     let within : 514 * p + 514 ≤ length (l .weights) = omega arith in
     length-with 514 p (l .weights) _ within (stepped-length _ (part 514 p (l .weights)) ∙ length-part 514 p (l .weights) within) ∙ h
 
-learnt-lengths : (parts head : ℕ) (xs e rates sh : List Float) → length sh ≡ 514 * parts
+pub learnt-lengths : (parts head : ℕ) (xs e rates sh : List Float) → length sh ≡ 514 * parts
     → length (learntTo parts head xs e rates sh parts .weights) ≡ 514 * parts
 unfolding learntTo
 learnt-lengths parts head xs e rates sh h =

@@ -1,3 +1,5 @@
 pub mod Composed
 pub mod Bounds
 pub mod Kept
+pub mod Silence
+pub mod Ran

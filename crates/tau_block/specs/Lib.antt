@@ -4,3 +4,4 @@ pub mod Filter
 pub mod Update
 pub mod Suppressor
 pub mod Block
+pub mod Silence
