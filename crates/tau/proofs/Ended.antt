@@ -1,0 +1,55 @@
+-- How a call ends: from what the framing left to what the call leaves. Assumes nothing.
+--     served-is     the delivered samples in the output buffer's first places, the rest as it was
+--     flush-is      the flush's block
+use mathlib.Core.Path.{_≡_, refl, sym, ap, _∙_}
+use mathlib.Core.Bool.{false}
+use mathlib.Core.List.{List, _++_}
+use Prim.Native.Nat.{ℕ, _+_, _≤_}
+use native.Mathlib.Nat.{zero-add}
+use native.Mathlib.Omega.{arith}
+use borrow.Author.Tests.{ne-eqb}
+use lib.Ieee.{Float}
+use lib.ListN.{length, take, drop, take-append-drop, length-append, length-drop}
+use lib.Seq.{take-at, drop-at, length-take-le}
+use Rattle.laws.specs.Choice.{pick-no}
+use Rattle.tau_steps.specs.declared.state.TauCanceller.{TauCanceller}
+use Rattle.tau_steps.specs.declared.report.Outcome.{Outcome}
+use Rattle.tau_block.specs.Block.{Ran, runBlock}
+use Rattle.tau.specs.declared.calls.Answer.{Answer}
+use Rattle.tau.specs.Pairs.{Engine, Run, carrying, blockOf, padded, flushedOf}
+use Rattle.tau.specs.Calls.{Called, answerOf, servedOf}
+use Rattle.tau.proofs.Going.{block-long}
+
+pub served-is : (e : Engine) (d : ℕ) (last : Outcome) (out out₀ : List Float) (r : Run) → _≡_ {A = Run} (record { engine = e; samples = take d out; last = last }) r
+    → drop d out ≡ drop d out₀ → d ≤ length out → (a : Answer) → a ≡ answerOf 0 d (e .state) last
+    → _≡_ {A = Called} (record { answer = a; shadow = e .shadow; output = e .output; spectra = e .spectra; out = out }) (servedOf r out₀)
+served-is e d last out out₀ r er tail room a ea =
+    let k : length (take d out) ≡ d = length-take-le d out room in
+    rw (← er, ea, k, ← tail, take-append-drop d out)
+
+pub record Flushed (s : TauCanceller) (sh ou xs out : List Float) (r : Ran) (out' : List Float) : Type 0 where
+  pub run : _≡_ {A = Run} (record {
+    engine = record { state = r .answer .state; shadow = r .shadow; output = r .output; spectra = r .spectra };
+    samples = take (s .carried) out';
+    last = r .answer .outcome;
+  }) (flushedOf (record { state = s; shadow = sh; output = ou; spectra = xs }))
+  pub tail : drop (s .carried) out' ≡ drop (s .carried) out
+  pub room : s .carried ≤ length out'
+
+pub flush-is : (s : TauCanceller) (sh ou xs out pn pf : List Float) → pn ≡ padded (s .«near_carry») (s .carried) → pf ≡ padded (s .«far_carry») (s .carried)
+    → (s .carried ≡ 0 → ⊥) → s .carried ≤ 255 → s .carried ≤ length out
+    → (r : Ran) → r ≡ runBlock (carrying s (s .«near_carry») (s .«far_carry») 0) pn pf (s .carried) false sh ou xs
+    → (out' : List Float) → out' ≡ take 0 out ++ (take (s .carried) (r .answer .block) ++ drop (0 + s .carried) out)
+    → Flushed s sh ou xs out r out'
+unfolding flushedOf blockOf
+flush-is s sh ou xs out pn pf en ef h few room r er out' eo =
+    let n = s .carried in
+    let blk = r .answer .block in
+    let l : length (take n blk) ≡ n = length-take-le n blk (block-long _ _ _ _ _ _ _ _ r er n (omega arith)) in
+    let split : out' ≡ take n blk ++ drop n out = eo ∙ ap (λ (i : ℕ). take n blk ++ drop i out) (zero-add n) in
+    let made : take n out' ≡ take n blk = ap (take n) split ∙ take-at (take n blk) (drop n out) n l in
+    record {
+      run = rw (made, er, en, ef) (pick-no _ _ _ (ne-eqb _ _ h) refl);
+      tail = ap (drop n) split ∙ drop-at (take n blk) (drop n out) n l;
+      room = rw split (omega (arith, length-append (take n blk) (drop n out), l));
+    }

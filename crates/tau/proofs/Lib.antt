@@ -1,0 +1,11 @@
+pub mod Later
+pub mod Accepted
+pub mod Going
+pub mod Ended
+pub mod Counts
+pub mod Cut
+pub mod Outcomes
+pub mod Blocks
+pub mod Since
+pub mod Marked
+pub mod Silence

@@ -1,0 +1,40 @@
+-- M12, from the counts of a stream and of a flush. Assumes nothing.
+use mathlib.Core.Path.{_≡_, sym, _∙_}
+use native.Mathlib.Omega.{arith}
+use Rattle.tau.specs.Pairs.{Engine, pairsOf}
+use Rattle.tau.specs.Stream.{Good, rowOf}
+use Rattle.tau.specs.Marked.{Created, M12, M12Calls}
+use Rattle.tau.proofs.Accepted.{create-answers, flush-answers}
+use Rattle.tau.proofs.Counts.{pairs-sound, created-good, created-empty, delivers, carries, flushed-delivers, flush-delivers}
+use Rattle.tau.proofs.Cut.{row-delivers, row-carries}
+
+created-is : (e : Engine) → Created e → Good e × (e .state .carried ≡ 0)
+created-is e c =
+    let h = sym (create-answers (c .parts) (c .flag) (c .shadow) (c .output) (c .spectra)) ∙ c .accepted in
+    rw (c .left)
+    (created-good (c .parts) (c .flag) (c .shadow) (c .output) (c .spectra) h, created-empty (c .parts) (c .flag) (c .shadow) (c .output) (c .spectra) h)
+
+pub m12 : M12
+m12 e near far c l =
+    let g = created-is e c in
+    let z = g .1 in
+    let d = delivers e near far (g .0 .ranged) l in
+    let k = carries e near far (g .0 .ranged) l in
+    let f = flushed-delivers (pairsOf e near far .engine) (pairs-sound e near far (g .0) .ranged) in
+    (λ n. omega (arith, n, d, z), λ n. omega (arith, n, d, z), λ n. (omega (arith, n, d, z), omega (arith, n, k, f, z)))
+
+pub m12-calls : M12Calls
+m12-calls e ps c h =
+    let g = created-is e c in
+    let z = g .1 in
+    let d = row-delivers e ps (g .0 .ranged) h in
+    let k = row-carries e ps (g .0 .ranged) h in (
+      λ n. omega (arith, n, d, z),
+      λ n. omega (arith, n, d, z),
+      λ n. (
+        omega (arith, n, d, z),
+        λ out a.
+            let f = flush-delivers (rowOf e ps .run .engine) out (sym (flush-answers (rowOf e ps .run .engine) out) ∙ a) .count in
+            omega (arith, n, k, f, z),
+      ),
+    )

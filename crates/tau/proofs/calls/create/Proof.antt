@@ -1,0 +1,26 @@
+use Rattle.tau.specs.Calls.{createOf}
+use Rattle.tau_steps.specs.Weights.{cleared}
+use borrow.Author.Tests.{not-true, not-false, eq-eqb, ne-eqb, lt-leb, le-leb}
+use Rattle.laws.specs.Choice.{pick-yes, pick-no, choices}
+use mathlib.Core.Path.{_≡_, refl, sym, _∙_}
+use Rattle.tau.proofs.Accepted.{accepted-settings}
+use borrow.Author.Needs.{needs}
+use Rattle.tau.proofs.calls.create.Statement.{statement}
+use Rattle.tau.proofs.calls.create.Tie as tie
+
+pub create-spec : {M : Type 1} → statement M
+unfolding createOf cleared
+create-spec =
+    tie.close
+    (tie.spec
+    (λ c κs. search needs)
+    (λ c κs. search needs)
+    (λ c. rw (c .empty .ensures, ← c .before .before .create-refusal .ensures) (pick-no _ _ _ (ne-eqb _ _ (c .before .if1 .taken)) refl))
+    (λ c κs. search needs)
+    (λ c κs. search needs)
+    (λ c κs. search needs)
+    (λ c κs. accepted-settings _ _ _ _ (sym (c .before .before .before .before .before .before .before .before .before .before .before .before .before .create-refusal .ensures) ∙ c .before .before .before .before .before .before .before .before .before .before .before .before .if1 .left) .some)
+    (λ c. search needs)
+    (λ c. search needs)
+    (λ c. search needs)
+    (λ c. let z = accepted-settings _ _ _ _ (sym (c .before .before .before .before .before .before .before .before .before .before .before .before .before .before .create-refusal .ensures) ∙ c .before .before .before .before .before .before .before .before .before .before .before .before .before .if1 .left) in rw (← c .before .before .before .before .before .before .before .before .before .before .before .before .before .before .create-refusal .ensures) (pick-yes _ _ _ (eq-eqb _ _ (c .before .before .before .before .before .before .before .before .before .before .before .before .before .if1 .left)) (rw (c .fresh .ensures, c .before .before .before .clear3 .ensures, c .before .before .before .before .before .before .before .clear2 .ensures, c .before .before .before .before .before .before .before .before .before .before .before .clear .ensures, z .sizes .shadow, z .sizes .output, z .sizes .spectra)))))

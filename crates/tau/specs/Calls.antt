@@ -1,0 +1,127 @@
+-- What each call leaves: its answer, the three lent buffers and the output buffer. Definitions only.
+use Prim.Native.Nat.{ℕ, _+_, _*_, _/_}
+use mathlib.Core.Bool.{Bool, _&&_}
+use mathlib.Core.List.{List, [], _++_}
+use lib.Dec.{eqb, leb}
+use lib.Ieee.{Float}
+use lib.ListN.{length, drop, replicate}
+use Rattle.laws.specs.Choice.{pick}
+use Rattle.tau_steps.specs.Constants.{zero64}
+use Rattle.tau_steps.specs.Ranges.{rangedOf}
+use Rattle.tau_steps.specs.Report.{reportOf}
+use Rattle.tau_steps.specs.declared.state.TauCanceller.{TauCanceller}
+use Rattle.tau_steps.specs.declared.report.Outcome.{Outcome}
+use Rattle.tau_steps.specs.declared.report.Outcome.the-variants.{NotRun}
+use Rattle.tau.specs.declared.calls.Started.{Started}
+use Rattle.tau.specs.declared.calls.Answer.{Answer}
+use Rattle.tau.specs.Fresh.{freshOf, emptyOf}
+use Rattle.tau.specs.Pairs.{Engine, Run, pairsOf, flushedOf}
+
+-- ---- the refusals, each number "given exactly when"
+
+-- 1: "a setting .. outside the ranges"
+unfoldable pub settingsOf : ℕ → Bool
+settingsOf parts = leb 1 parts && leb parts 32
+
+-- 2: "a lent state .. buffer has not exactly the needed length"
+unfoldable pub sizedOf : ℕ → ℕ → ℕ → ℕ → Bool
+sizedOf parts shadow output spectra = eqb shadow (514 * parts) && (eqb output (514 * parts) && eqb spectra (514 * parts))
+
+-- creation 1, 2
+unfoldable pub createRefusal : ℕ → ℕ → ℕ → ℕ → ℕ
+createRefusal parts shadow output spectra = pick (settingsOf parts) (pick (sizedOf parts shadow output spectra) 0 2) 1
+
+-- reset 6, 2 (6: "a stored state holds a number outside its range")
+unfoldable pub stateRefusal : TauCanceller → ℕ → ℕ → ℕ → ℕ
+stateRefusal s shadow output spectra = pick (rangedOf s) (pick (sizedOf (s .partitions) shadow output spectra) 0 2) 6
+
+-- what a process of so many pairs would deliver: the whole blocks
+abbrev pub deliversOf : ℕ → ℕ → ℕ
+deliversOf carried pairs = (carried + pairs) / 256 * 256
+
+-- 3 "near and far lengths differ", 4 "more than 4,096 pairs in one call", 5 "the output buffer is shorter than this call would deliver"
+unfoldable pub pairsRefusal : ℕ → ℕ → ℕ → ℕ → ℕ
+pairsRefusal carried near far out = pick (eqb near far) (pick (leb near 4096) (pick (leb (deliversOf carried near) out) 0 5) 4) 3
+
+-- process 6, 2, 3, 4, 5
+unfoldable pub processRefusal : TauCanceller → ℕ → ℕ → ℕ → ℕ → ℕ → ℕ → ℕ
+processRefusal s shadow output spectra near far out =
+    let first = stateRefusal s shadow output spectra in
+    pick (eqb first 0) (pairsRefusal (s .carried) near far out) first
+
+-- flush 6, 2, 5
+unfoldable pub flushRefusal : TauCanceller → ℕ → ℕ → ℕ → ℕ → ℕ
+flushRefusal s shadow output spectra out =
+    let first = stateRefusal s shadow output spectra in
+    pick (eqb first 0) (pick (leb (s .carried) out) 0 5) first
+
+-- ---- what is left
+
+-- after creation and reset
+pub record Begun : Type 0 where
+  pub answer : Started
+  pub shadow : List Float
+  pub output : List Float
+  pub spectra : List Float
+
+-- after process and flush
+pub record Called : Type 0 where
+  pub answer : Answer
+  pub shadow : List Float
+  pub output : List Float
+  pub spectra : List Float
+  pub out : List Float
+
+-- "Creation writes +0.0 to all and gives the state that `reset` gives"
+abbrev pub begunOf : ℕ → Bool → ℕ → ℕ → Begun
+begunOf parts flag transfers resets = record {
+  answer = record { refusal = 0; state = freshOf parts flag transfers resets };
+  shadow = replicate (514 * parts) zero64;
+  output = replicate (514 * parts) zero64;
+  spectra = replicate (514 * parts) zero64;
+}
+
+-- ".., with both counters zero"
+unfoldable pub createOf : ℕ → Bool → List Float → List Float → List Float → Begun
+createOf parts flag sh ou xs =
+    let refusal = createRefusal parts (length sh) (length ou) (length xs) in
+    pick (eqb refusal 0) (begunOf parts flag 0 0)
+    (record { answer = record { refusal = refusal; state = emptyOf }; shadow = sh; output = ou; spectra = xs })
+
+-- "Reset keeps the settings and the counters; all else becomes the fresh state."
+unfoldable pub resetOf : Engine → Begun
+resetOf e =
+    let s = e .state in
+    let refusal = stateRefusal s (length (e .shadow)) (length (e .output)) (length (e .spectra)) in
+    pick (eqb refusal 0) (begunOf (s .partitions) (s .suppress) (s .mic .transfers) (s .mic .«divergence_resets»))
+    (record { answer = record { refusal = refusal; state = s }; shadow = e .shadow; output = e .output; spectra = e .spectra })
+
+-- the report is of the last block; "Where none ran, refusals included, the outcome is a fourth case .. and the rest is read from the state"
+abbrev pub answerOf : ℕ → ℕ → TauCanceller → Outcome → Answer
+answerOf refusal delivered s o = record { refusal = refusal; delivered = delivered; state = s; report = reportOf (s .mic) o }
+
+-- "Each of 1 to 6 returns its number, zero delivered and the state as given, and writes nothing."
+abbrev pub refusedOf : ℕ → Engine → List Float → Called
+refusedOf refusal e out = record { answer = answerOf refusal 0 (e .state) NotRun; shadow = e .shadow; output = e .output; spectra = e .spectra; out = out }
+
+-- "Answer 0 writes only the first `delivered` places of the output buffer."
+abbrev pub servedOf : Run → List Float → Called
+servedOf r out =
+    let n = length (r .samples) in
+    record {
+      answer = answerOf 0 n (r .engine .state) (r .last);
+      shadow = r .engine .shadow;
+      output = r .engine .output;
+      spectra = r .engine .spectra;
+      out = r .samples ++ drop n out;
+    }
+
+unfoldable pub processOf : Engine → List Float → List Float → List Float → Called
+processOf e near far out =
+    let refusal = processRefusal (e .state) (length (e .shadow)) (length (e .output)) (length (e .spectra)) (length near) (length far) (length out) in
+    pick (eqb refusal 0) (servedOf (pairsOf e near far) out) (refusedOf refusal e out)
+
+unfoldable pub flushOf : Engine → List Float → Called
+flushOf e out =
+    let refusal = flushRefusal (e .state) (length (e .shadow)) (length (e .output)) (length (e .spectra)) (length out) in
+    pick (eqb refusal 0) (servedOf (flushedOf e) out) (refusedOf refusal e out)

@@ -1,0 +1,6 @@
+pub mod Fresh
+pub mod Pairs
+pub mod Calls
+pub mod Stream
+pub mod Marked
+pub mod Silence

@@ -1,0 +1,96 @@
+-- A stream of pairs: "A call turns non-finite samples into 0.0, fills the carry, and runs one block at each 256th pair. Flush with an
+-- empty carry delivers nothing and changes nothing; else it pads with 0.0 to 256, runs without adapting, and delivers only the
+-- remainder." Definitions only.
+use mathlib.Core.Bool.{Bool, true, false}
+use mathlib.Core.List.{List, [], _∷_, _++_}
+use Prim.Native.Nat.{ℕ, _+_, _-_}
+use lib.Dec.{eqb}
+use lib.ListN.{set, take, replicate}
+use lib.Ieee.{Float}
+use Rattle.laws.specs.Choice.{pick}
+use Rattle.numbers.specs.Finite.{finiteOrZero}
+use Rattle.tau_steps.specs.Constants.{zero32}
+use Rattle.tau_steps.specs.declared.state.TauCanceller.{TauCanceller}
+use Rattle.tau_steps.specs.declared.report.Outcome.{Outcome}
+use Rattle.tau_steps.specs.declared.report.Outcome.the-variants.{NotRun, NoMove, Rescue, Move}
+use Rattle.tau_block.specs.Block.{Ran, runBlock}
+
+-- the engine whole: its state and the three lent buffers
+pub record Engine : Type 0 where
+  pub state : TauCanceller
+  pub shadow : List Float
+  pub output : List Float
+  pub spectra : List Float
+
+-- what pairs, or a flush, make of it: the engine after them, the samples delivered, and what the last block did
+pub record Run : Type 0 where
+  pub engine : Engine
+  pub samples : List Float
+  pub last : Outcome
+
+-- where no block is run
+abbrev pub waitsOf : Engine → Run
+waitsOf e = record { engine = e; samples = []; last = NotRun }
+
+-- the state with another carry
+abbrev pub carrying : TauCanceller → List Float → List Float → ℕ → TauCanceller
+carrying s ns fs n = record {
+  partitions = s .partitions;
+  suppress = s .suppress;
+  carried = n;
+  «near_carry» = ns;
+  «far_carry» = fs;
+  far = s .far;
+  mic = s .mic;
+}
+
+-- a block, after which the carry is empty: of near and far the first n are valid, and these are delivered; adapt says that it is no flush
+unfoldable pub blockOf : Engine → List Float → List Float → ℕ → Bool → Run
+blockOf e near far n adapt =
+    let s = e .state in
+    let r = runBlock (carrying s (s .«near_carry») (s .«far_carry») 0) near far n adapt (e .shadow) (e .output) (e .spectra) in
+    record {
+      engine = record { state = r .answer .state; shadow = r .shadow; output = r .output; spectra = r .spectra };
+      samples = take n (r .answer .block);
+      last = r .answer .outcome;
+    }
+
+-- the pair in the carry, at its end
+abbrev pub placed : TauCanceller → Float → Float → TauCanceller
+placed s x y =
+    carrying s (set (s .«near_carry») (s .carried) (finiteOrZero x)) (set (s .«far_carry») (s .carried) (finiteOrZero y)) (s .carried + 1)
+
+abbrev pub fillOf : Engine → Float → Float → Engine
+fillOf e x y = record { state = placed (e .state) x y; shadow = e .shadow; output = e .output; spectra = e .spectra }
+
+-- one pair
+unfoldable pub pairOf : Engine → Float → Float → Run
+pairOf e x y =
+    let f = fillOf e x y in
+    pick (eqb (e .state .carried) 255) (blockOf f (f .state .«near_carry») (f .state .«far_carry») 256 true) (waitsOf f)
+
+-- the outcome of the later of two, where a block ran in it
+unfoldable pub lastOf : Outcome → Outcome → Outcome
+lastOf o NotRun = o
+lastOf o NoMove = NoMove
+lastOf o Rescue = Rescue
+lastOf o (Move leak) = Move leak
+
+-- all pairs of two lists, one after the other
+unfoldable pub pairsOf : Engine → List Float → List Float → Run
+pairsOf e [] far = waitsOf e
+pairsOf e (x ∷ near) [] = waitsOf e
+pairsOf e (x ∷ near) (y ∷ far) =
+    let t = pairOf e x y in
+    let rest = pairsOf (t .engine) near far in
+    record { engine = rest .engine; samples = t .samples ++ rest .samples; last = lastOf (t .last) (rest .last) }
+
+-- "pads with 0.0 to 256"
+abbrev pub padded : List Float → ℕ → List Float
+padded l n = take n l ++ replicate (256 - n) zero32
+
+unfoldable pub flushedOf : Engine → Run
+flushedOf e =
+    let s = e .state in
+    let n = s .carried in
+    pick (eqb n 0) (waitsOf e) (blockOf e (padded (s .«near_carry») n) (padded (s .«far_carry») n) n false)

@@ -1,0 +1,220 @@
+-- What the theorems on streams speak of: an engine in order, a stream cut into calls, a stream by blocks, and what has come since the
+-- carry was last emptied. Definitions only, and no contract cites them.
+use mathlib.Core.Path.{_≡_}
+use mathlib.Core.Bool.{true}
+use mathlib.Core.List.{List, [], _∷_, _++_, map}
+use Prim.Native.Nat.{ℕ, zero, suc, _+_, _-_, _*_, _/_, _%_, _≤_}
+use lib.Dec.{T, eqb}
+use lib.Ieee.{Float}
+use lib.ListN.{length, take, drop, replicate}
+use Rattle.laws.specs.Choice.{pick}
+use Rattle.laws.specs.Kinds.{All}
+use Rattle.numbers.specs.Finite.{finiteOrZero}
+use Rattle.tau_steps.specs.Constants.{zero32}
+use Rattle.tau_steps.specs.Ranges.{Ranged}
+use Rattle.tau.specs.Pairs.{Engine, Run, waitsOf, carrying, blockOf, lastOf, pairsOf}
+use Rattle.tau.specs.Calls.{deliversOf, stateRefusal, processRefusal, flushRefusal, Begun, Called, resetOf, processOf, flushOf}
+
+-- ---- engines
+
+-- an engine in order, with carries of n and of f numbers: its state in the ranges of refusal 6, its buffers of the lengths of refusal 2
+pub record Sound (n f : ℕ) (e : Engine) : Type 0 where
+  pub ranged : Ranged (e .state)
+  pub shadow : length (e .shadow) ≡ 514 * e .state .partitions
+  pub output : length (e .output) ≡ 514 * e .state .partitions
+  pub spectra : length (e .spectra) ≡ 514 * e .state .partitions
+  pub near : length (e .state .«near_carry») ≡ n
+  pub far : length (e .state .«far_carry») ≡ f
+
+-- the same with carries of 256 numbers, as their type says in the code
+abbrev pub Good : Engine → Type 0
+Good e = Sound 256 256 e
+
+-- ---- calls
+
+-- the state and the three buffers that creation or reset leaves, and that process or flush leaves
+abbrev pub begunBy : Begun → Engine
+begunBy b = record { state = b .answer .state; shadow = b .shadow; output = b .output; spectra = b .spectra }
+
+abbrev pub leftBy : Called → Engine
+leftBy c = record { state = c .answer .state; shadow = c .shadow; output = c .output; spectra = c .spectra }
+
+-- the samples that a call delivered
+abbrev pub deliveredBy : Called → List Float
+deliveredBy c = take (c .answer .delivered) (c .out)
+
+-- both, with the outcome of its report, as a run
+abbrev pub ranBy : Called → Run
+ranBy c = record { engine = leftBy c; samples = deliveredBy c; last = c .answer .report .outcome }
+
+-- the number of a reset's refusal, of a process's and of a flush's
+abbrev pub stateNumber : Engine → ℕ
+stateNumber e = stateRefusal (e .state) (length (e .shadow)) (length (e .output)) (length (e .spectra))
+
+abbrev pub processNumber : Engine → List Float → List Float → List Float → ℕ
+processNumber e near far out =
+    processRefusal (e .state) (length (e .shadow)) (length (e .output)) (length (e .spectra)) (length near) (length far) (length out)
+
+abbrev pub flushNumber : Engine → List Float → ℕ
+flushNumber e out = flushRefusal (e .state) (length (e .shadow)) (length (e .output)) (length (e .spectra)) (length out)
+
+-- ---- a stream cut into parts
+
+-- a part of a stream, and the output buffer that is lent for it
+pub record Part : Type 0 where
+  pub near : List Float
+  pub far : List Float
+  pub out : List Float
+
+-- as many near samples as far samples
+pub record Level (p : Part) : Type 0 where
+  pub level : length (p .near) ≡ length (p .far)
+
+-- for each part in turn, an output buffer that holds what it delivers over what then waits: from c waiting pairs, n more leave the
+-- remainder of c + n by 256
+abbrev pub Rooms : ℕ → List Part → Type 0
+Rooms c [] = T true
+Rooms c (p ∷ ps) = (deliversOf c (length (p .near)) ≤ length (p .out)) × Rooms ((c + length (p .near)) % 256) ps
+
+pub record Roomy (c : ℕ) (ps : List Part) : Type 0 where
+  pub rooms : Rooms c ps
+
+-- the whole stream's near samples, and its far samples
+unfoldable pub nearOf : List Part → List Float
+nearOf [] = []
+nearOf (p ∷ ps) = p .near ++ nearOf ps
+
+unfoldable pub farOf : List Part → List Float
+farOf [] = []
+farOf (p ∷ ps) = p .far ++ farOf ps
+
+-- two runs one after the other: the last engine, the samples of both, and what the last block of both did
+abbrev pub joined : Run → Run → Run
+joined first second = record {
+  engine = second .engine;
+  samples = first .samples ++ second .samples;
+  last = lastOf (first .last) (second .last);
+}
+
+-- A run over a and c, and from where it ended one over b and d.
+abbrev pub thenOf : Engine → List Float → List Float → List Float → List Float → Run
+thenOf e a c b d = let first = pairsOf e a c in joined first (pairsOf (first .engine) b d)
+
+-- the parts run one after the other, each from where the one before it ended
+unfoldable pub partsOf : Engine → List Part → Run
+partsOf e [] = waitsOf e
+partsOf e (p ∷ ps) = let run = pairsOf e (p .near) (p .far) in joined run (partsOf (run .engine) ps)
+
+-- ---- a stream by blocks, with no carry
+
+-- the samples as they are read
+abbrev pub cleanOf : List Float → List Float
+cleanOf l = map finiteOrZero l
+
+-- the engine with the n pairs a and c for its carry, read so
+abbrev pub holding : Engine → List Float → List Float → ℕ → Engine
+holding e a c n = record { state = carrying (e .state) (cleanOf a) (cleanOf c) n; shadow = e .shadow; output = e .output; spectra = e .spectra }
+
+-- the block of 256 pairs, a and c
+abbrev pub blockOn : Engine → List Float → List Float → Run
+blockOn e a c = blockOf (holding e a c 256) (cleanOf a) (cleanOf c) 256 true
+
+-- the first k blocks of 256 pairs, one after the other
+unfoldable pub blocksOf : ℕ → Engine → List Float → List Float → Run
+blocksOf zero e near far = waitsOf e
+blocksOf (suc k) e near far =
+    let b = blockOn e (take 256 near) (take 256 far) in
+    joined b (blocksOf k (b .engine) (drop 256 near) (drop 256 far))
+
+-- the engine with the pairs a and c, too few for a block, at the front of its carry
+abbrev pub waiting : Engine → List Float → List Float → Engine
+waiting e a c =
+    let s = e .state in
+    record {
+      state = carrying s (cleanOf a ++ drop (length a) (s .«near_carry»)) (cleanOf c ++ drop (length c) (s .«far_carry»)) (length a);
+      shadow = e .shadow;
+      output = e .output;
+      spectra = e .spectra;
+    }
+
+-- the first k blocks of a stream, with the pairs behind them left waiting
+abbrev pub blocksThen : ℕ → Engine → List Float → List Float → Run
+blocksThen k e near far =
+    let b = blocksOf k e near far in
+    record { engine = waiting (b .engine) (drop (256 * k) near) (drop (256 * k) far); samples = b .samples; last = b .last }
+
+-- a stream by blocks: all whole blocks, and the rest is left waiting
+abbrev pub byBlocks : Engine → List Float → List Float → Run
+byBlocks e near far = blocksThen (length near / 256) e near far
+
+-- that rest, padded with 0.0 to 256
+abbrev pub restOf : List Float → List Float
+restOf l = cleanOf l ++ replicate (256 - length l) zero32
+
+-- ---- rows of calls
+
+-- what a row of calls leaves: the state and the buffers after the last, all delivered samples joined, the outcome of the last block, and
+-- each call's refusal
+pub record Row : Type 0 where
+  pub run : Run
+  pub refusals : List ℕ
+
+-- the parts processed one after the other, each call on the state and the buffers that the one before it left
+unfoldable pub rowOf : Engine → List Part → Row
+rowOf e [] = record { run = waitsOf e; refusals = [] }
+rowOf e (p ∷ ps) =
+    let call = processOf e (p .near) (p .far) (p .out) in
+    let rest = rowOf (leftBy call) ps in
+    record { run = joined (ranBy call) (rest .run); refusals = call .answer .refusal ∷ rest .refusals }
+
+-- every call of the row is accepted
+abbrev pub AllAccepted : Engine → List Part → Type 0
+AllAccepted e ps = All (λ r. r ≡ 0) (rowOf e ps .refusals)
+
+-- ---- calls of every kind
+
+-- a call on an engine: a process of a part, a flush with the output buffer lent for it, or a reset
+pub data Call : Type 0 where
+  feed : Part → Call
+  flush : List Float → Call
+  reset : Call
+
+-- What has come since the carry was last emptied, by creation, reset or flush: the engine as that left it, the pairs that were accepted
+-- since, and what the calls since have made of it: the engine now, all samples delivered since, and what the last block since did.
+pub record Since : Type 0 where
+  pub start : Engine
+  pub near : List Float
+  pub far : List Float
+  pub run : Run
+
+-- nothing yet
+abbrev pub anew : Engine → Since
+anew e = record { start = e; near = []; far = []; run = waitsOf e }
+
+-- a call more, that emptied nothing: all pairs with its own, and what it did
+abbrev pub onward : Since → List Float → List Float → Run → Since
+onward t near far r = record { start = t .start; near = near; far = far; run = joined (t .run) r }
+
+-- One call more, on the engine as it is now. A refused one adds no pairs.
+unfoldable pub afterCall : Since → Call → Since
+afterCall t (feed p) =
+    let c = processOf (t .run .engine) (p .near) (p .far) (p .out) in
+    pick (eqb (c .answer .refusal) 0) (onward t (t .near ++ p .near) (t .far ++ p .far) (ranBy c)) (onward t (t .near) (t .far) (ranBy c))
+afterCall t (flush out) =
+    let c = flushOf (t .run .engine) out in
+    pick (eqb (c .answer .refusal) 0) (anew (leftBy c)) (onward t (t .near) (t .far) (ranBy c))
+afterCall t reset =
+    let b = resetOf (t .run .engine) in
+    pick (eqb (b .answer .refusal) 0) (anew (begunBy b)) (onward t (t .near) (t .far) (waitsOf (begunBy b)))
+
+-- all calls of a list, one after the other
+unfoldable pub afterCalls : Since → List Call → Since
+afterCalls t [] = t
+afterCalls t (c ∷ cs) = afterCalls (afterCall t c) cs
+
+-- From an engine in order with nothing carried, as many near as far samples, and all is as one run over the uncut stream since makes it.
+pub record Uncut (t : Since) : Type 0 where
+  pub good : Good (t .start)
+  pub empty : t .start .state .carried ≡ 0
+  pub level : length (t .near) ≡ length (t .far)
+  pub run : t .run ≡ pairsOf (t .start) (t .near) (t .far)
