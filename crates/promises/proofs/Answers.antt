@@ -1,0 +1,18 @@
+-- One lemma, and its instances. Assumes nothing.
+use mathlib.Core.Path.{_≡_, sym, _∙_}
+use Rattle.promises.specs.Answers.{One, Numbers, Transforms, Rho, Tau}
+
+pub one : {A : Type 0} (d : A) → One d
+one d x y h k = h ∙ sym k
+
+pub numbers : Numbers
+numbers A B f a = one (f a)
+
+pub transforms : Transforms
+transforms x t out s r inverse = (one _, one _, one _, one _, one _)
+
+pub rho : Rho
+rho rate tail e near far out = (one _, one _, one _, one _)
+
+pub tau : Tau
+tau parts flag sh ou xs e near far out = (one _, one _, one _, one _)
