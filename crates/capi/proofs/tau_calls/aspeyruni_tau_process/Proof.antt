@@ -1,0 +1,18 @@
+-- `capi::tau_calls::aspeyruni_tau_process` is what `tau::process` promises, with its answer as numbers. Assumes nothing.
+use mathlib.Core.Path.{ap}
+use Rattle.capi.specs.Tau.{hostedOf}
+use borrow.Author.Needs.{needs}
+use Rattle.capi.proofs.tau_calls.aspeyruni_tau_process.Statement.{statement}
+use Rattle.capi.proofs.tau_calls.aspeyruni_tau_process.Tie as tie
+
+pub aspeyruni-tau-process-spec : {M : Type 1} → statement M
+aspeyruni-tau-process-spec =
+    tie.close
+    (tie.spec
+    (λ c κs. search needs)
+    (λ c κs. search needs)
+    (λ c. search needs)
+    (λ c. search needs)
+    (λ c. search needs)
+    (λ c. search needs)
+    (λ c. rw (c .numbers-of .ensures) (ap hostedOf (c .before .before .before .before .before .before .before .before .before .process .ensures))))

@@ -1,0 +1,94 @@
+// Tau. C has no enum with a value, so the report comes as numbers: what else there is, is as the functions below answer it.
+use tau::Answer;
+use tau::Started;
+use tau_steps::report::leak_of;
+use tau_steps::report::number;
+use tau_steps::state::TauCanceller;
+ghost use mathlib.Core.Path.{_≡_};
+ghost use Rattle.tau.specs.Calls.{createOf, processOf, flushOf, resetOf};
+ghost use Rattle.capi.specs.Tau.{numbersOf, hostedOf};
+
+// What process and flush answer, and then their report. The outcome: 0 no block run, 1 no move, 2 a rescue, 3 a move; the leak is that of
+// a move, and 0.0 where there is none.
+#[repr(C)]
+pub struct TauAnswer {
+    pub refusal: u32,
+    pub delivered: usize,
+    pub state: TauCanceller,
+    pub transfers: u64,
+    pub divergence_resets: u64,
+    pub double_talk: bool,
+    pub outcome: u32,
+    pub leak: f64,
+}
+
+fn numbers_of(a: Answer) -> TauAnswer
+    ensures { λ r. ⌜ r ≡ numbersOf a ⌝ }
+{
+    let state = a.state;
+    let report = a.report;
+    let outcome = report.outcome;
+    TauAnswer {
+        refusal: a.refusal,
+        delivered: a.delivered,
+        state,
+        transfers: report.transfers,
+        divergence_resets: report.divergence_resets,
+        double_talk: report.double_talk,
+        outcome: number(outcome),
+        leak: leak_of(outcome),
+    }
+}
+
+#[no_mangle]
+pub extern "C" fn aspeyruni_tau_create(
+    partitions: usize,
+    suppress: bool,
+    shadow: &mut [f64],
+    output: &mut [f64],
+    spectra: &mut [f64],
+) -> Started
+    ensures { λ r. ⌜ record { answer = r; shadow = now (shadow .exit); output = now (output .exit); spectra = now (spectra .exit) } ≡ createOf partitions suppress (now (shadow .entry)) (now (output .entry)) (now (spectra .entry)) ⌝ }
+{
+    tau::create(partitions, suppress, shadow, output, spectra)
+}
+
+#[no_mangle]
+pub extern "C" fn aspeyruni_tau_process(
+    s: TauCanceller,
+    shadow: &mut [f64],
+    output: &mut [f64],
+    spectra: &mut [f64],
+    near: &[f32],
+    far: &[f32],
+    out: &mut [f32],
+) -> TauAnswer
+    ensures { λ r. ⌜ record { answer = r; shadow = now (shadow .exit); output = now (output .exit); spectra = now (spectra .exit); out = now (out .exit) } ≡ hostedOf (processOf (record { state = s; shadow = now (shadow .entry); output = now (output .entry); spectra = now (spectra .entry) }) (now (near .entry)) (now (far .entry)) (now (out .entry))) ⌝ }
+{
+    numbers_of(tau::process(s, shadow, output, spectra, near, far, out))
+}
+
+#[no_mangle]
+pub extern "C" fn aspeyruni_tau_flush(
+    s: TauCanceller,
+    shadow: &mut [f64],
+    output: &mut [f64],
+    spectra: &mut [f64],
+    out: &mut [f32],
+) -> TauAnswer
+    ensures { λ r. ⌜ record { answer = r; shadow = now (shadow .exit); output = now (output .exit); spectra = now (spectra .exit); out = now (out .exit) } ≡ hostedOf (flushOf (record { state = s; shadow = now (shadow .entry); output = now (output .entry); spectra = now (spectra .entry) }) (now (out .entry))) ⌝ }
+{
+    numbers_of(tau::flush(s, shadow, output, spectra, out))
+}
+
+#[no_mangle]
+pub extern "C" fn aspeyruni_tau_reset(
+    s: TauCanceller,
+    shadow: &mut [f64],
+    output: &mut [f64],
+    spectra: &mut [f64],
+) -> Started
+    ensures { λ r. ⌜ record { answer = r; shadow = now (shadow .exit); output = now (output .exit); spectra = now (spectra .exit) } ≡ resetOf (record { state = s; shadow = now (shadow .entry); output = now (output .entry); spectra = now (spectra .entry) }) ⌝ }
+{
+    tau::reset(s, shadow, output, spectra)
+}
