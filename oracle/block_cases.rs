@@ -16,42 +16,16 @@ mod recipe;
 mod rust_tau;
 mod taken;
 mod tau_calls;
+mod tau_lines;
 mod tau_reference;
 
-use branches::{Branches, Ran};
-use inputs::{bits, halves, hash, hash32, Noise, Random};
-use inputs::{DIGITS, DIGITS32, SIGN, SIGN32, SIZES};
+use branches::Counts;
+use inputs::{bits, halves, hash32, Random};
 use kinds::*;
 use recipe::Recipe;
 use tau_calls::*;
-
-const MOST_PARTITIONS: usize = 32;
-
-/// 1/16 to 1/8, and 2^-7 to 2^-6.
-const LOW: Kind = [0x7b << 23, SIGN32 | DIGITS32];
-const LOWER: Kind = [0x78 << 23, SIGN32 | DIGITS32];
-
-/// Kinds of f64s, by base and mask: 2^-15 to 2 in size; the same, none negative; 2^1008 to 2^1023; subnormal; infinite or 1; NaN, not
-/// signalling (kinds.rs), or 1.5 to 2.
-const SOUND64: Kind = [0x3ff << 52, SIGN | SIZES | DIGITS];
-const POWER64: Kind = [0x3ff << 52, SIZES | DIGITS];
-const LARGE64: Kind = [0x7fe << 52, SIGN | SIZES | DIGITS];
-const SUBNORMAL64: Kind = [0, SIGN | DIGITS];
-const INFINITE64: Kind = [0x7ff << 52, SIGN | 0x400 << 52];
-const NAN64: Kind = [0xfff << 51, SIGN | 0x400 << 52 | DIGITS >> 1];
-
-/// The arrays, by the numbers that a line has for them.
-const NEAR_CARRY: u64 = 0;
-const FAR_CARRY: u64 = 1;
-const WINDOW: u64 = 2;
-const MEAN: u64 = 3;
-const ECHO: u64 = 4;
-const ERROR: u64 = 5;
-const GAIN: u64 = 6;
-const ERROR_WINDOW: u64 = 7;
-const SHADOW: u64 = 8;
-const OUTPUT: u64 = 9;
-const SPECTRA: u64 = 10;
+use tau_lines::*;
+use tau_reference::{Seen, MOST_PARTITIONS};
 
 /// What near and far of a block are: noise each, and the echo's gain, which near has of far besides. No gain where it is +0.0.
 #[derive(Clone, Copy)]
@@ -84,11 +58,7 @@ struct List {
     shadow: Vec<f64>,
     output: Vec<f64>,
     spectra: Vec<f64>,
-    branches: Branches,
-    blocks: [u32; MOST_PARTITIONS + 1],
-    /// Whether a line since the last creation set a part of the state, and whether the last block diverged.
-    is_foreign: bool,
-    has_diverged: bool,
+    counts: Counts,
 }
 
 impl List {
@@ -102,30 +72,12 @@ impl List {
 
     /// A line, by its fields 0 to 7 and what it comes to.
     fn line(&mut self, letter: char, given: [u64; 8], got: Got) {
-        let (s, n) = (&self.state, self.lent());
-        let q = &s.mic.suppressor;
-        let (outcome, leak) = match got.outcome {
-            Outcome::NotRun => (0, 0),
-            Outcome::NoMove => (1, 0),
-            Outcome::Rescue => (2, 0),
-            Outcome::Move(leak) => (3, bits(leak)),
-        };
-        let answered = [outcome, leak, hash32(&got.block)];
-        let arrays = [
-            hash32(&s.near_carry),
-            hash32(&s.far_carry),
-            hash32(&s.far.window),
-            hash(&s.mic.far_power_mean),
-            hash(&q.echo_power),
-            hash(&q.error_power),
-            hash(&q.gain),
-            hash32(&q.error_window),
-            hash(&self.shadow[..n]),
-            hash(&self.output[..n]),
-            hash(&self.spectra[..n]),
-        ];
-        let scalars = scalars(s);
-        let fields = given.iter().chain(&answered).chain(&scalars).chain(&arrays);
+        let (outcome, leak) = (got.outcome.number(), got.outcome.leak());
+        let answered = [outcome.into(), bits(leak), hash32(&got.block)];
+        let n = self.lent();
+        let buffers = [&self.shadow, &self.output, &self.spectra];
+        let kept = tau_lines::fields(&self.state, buffers.map(|buffer| &buffer[..n]));
+        let fields = given.iter().chain(&answered).chain(&kept);
         self.text.push(letter);
         for field in fields {
             self.text += &format!(" {field:016x}");
@@ -140,61 +92,38 @@ impl List {
         self.shadow[..n].fill(0.0);
         self.output[..n].fill(0.0);
         self.spectra[..n].fill(0.0);
-        self.is_foreign = true;
-        self.has_diverged = false;
+        self.counts.is_foreign = true;
+        self.counts.has_diverged = false;
         self.line('n', [0; 8], Got::nothing());
     }
 
     fn create(&mut self, partitions: usize, suppress: bool) {
         self.new_with(tau_reference::fresh(partitions, suppress));
-        self.is_foreign = false;
+        self.counts.is_foreign = false;
     }
 
     /// Numbers of the state that are in no array.
     fn set(&mut self, change: impl Fn(&mut TauCanceller)) {
         change(&mut self.state);
-        self.is_foreign = true;
+        self.counts.is_foreign = true;
         self.line('s', [0; 8], Got::nothing());
     }
 
     /// An array, of which one number is of its own where the array has the place.
     fn make_with(&mut self, array: u64, kind: Kind, place: u64, mark: u64) {
-        let [base, mask] = kind;
         let word = self.seed();
         let n = self.lent();
-        let mut noise = Noise { word, base, mask };
-        let s = &mut self.state;
-        let q = &mut s.mic.suppressor;
-        let samples: Option<&mut [f32]> = match array {
-            NEAR_CARRY => Some(&mut s.near_carry),
-            FAR_CARRY => Some(&mut s.far_carry),
-            WINDOW => Some(&mut s.far.window),
-            ERROR_WINDOW => Some(&mut q.error_window),
-            _ => None,
+        let recipe = Recipe64 {
+            word,
+            kind,
+            place,
+            mark,
         };
-        if let Some(samples) = samples {
-            samples.fill_with(|| noise.sample());
-            if let Some(x) = samples.get_mut(place as usize) {
-                *x = f32::from_bits(mark as u32);
-            }
-        } else {
-            let numbers: &mut [f64] = match array {
-                MEAN => &mut s.mic.far_power_mean,
-                ECHO => &mut q.echo_power,
-                ERROR => &mut q.error_power,
-                GAIN => &mut q.gain,
-                SHADOW => &mut self.shadow[..n],
-                OUTPUT => &mut self.output[..n],
-                _ => &mut self.spectra[..n],
-            };
-            numbers.fill_with(|| noise.number());
-            if let Some(x) = numbers.get_mut(place as usize) {
-                *x = f64::from_bits(mark);
-            }
-        }
-        self.is_foreign = true;
-        let given = [word, base, mask, place, mark, array, 0, 0];
-        self.line('a', given, Got::nothing());
+        let buffers = [&mut self.shadow, &mut self.output, &mut self.spectra];
+        let buffers = buffers.map(|buffer| &mut buffer[..n]);
+        recipe.make(array, &mut self.state, buffers);
+        self.counts.is_foreign = true;
+        self.line('a', recipe.fields(array), Got::nothing());
     }
 
     fn make(&mut self, array: u64, kind: Kind) {
@@ -214,18 +143,13 @@ impl List {
             let (before, adapt) = (self.state, letter == 'b');
             let (answer, taken) =
                 tau_reference::run_block(&before, &near, &far, valid, adapt, buffers);
-            let ran = Ran {
+            self.counts.see(Seen {
                 before: &before,
-                after: &answer.state,
-                outcome: answer.outcome,
+                blocked: &answer,
                 taken,
                 far: &far,
                 flushes: !adapt,
-                after_divergence: self.has_diverged,
-            };
-            self.branches.add(&ran, self.is_foreign);
-            self.blocks[before.partitions] += 1;
-            self.has_diverged = ran.diverged();
+            });
             self.state = answer.state;
             got = Got {
                 outcome: answer.outcome,
@@ -293,42 +217,6 @@ impl Sounds {
     }
 }
 
-/// The numbers of the state that are in no array, as fields 11 to 27.
-fn scalars(s: &TauCanceller) -> [u64; 17] {
-    let m = &s.mic;
-    let (d, p) = (m.detector, m.paths);
-    let flags = [
-        s.suppress,
-        s.far.far_active,
-        d.double_talk,
-        d.dtd_collapsed,
-        d.protect_output,
-    ];
-    let flags = flags
-        .iter()
-        .rev()
-        .fold(0, |sum, is| 2 * sum + usize::from(*is));
-    [
-        halves([s.partitions, s.carried]),
-        halves([s.far.head, flags]),
-        bits(s.far.far_energy_peak),
-        halves([d.dtd_blocks as usize, p.rescue_streak as usize]),
-        bits(d.dtd_baseline),
-        bits(d.dtd_deviation),
-        bits(d.coherence_smooth),
-        bits(d.step_scale),
-        bits(p.shadow_error_power),
-        bits(p.output_error_power),
-        p.quiet_streak.into(),
-        bits(m.guard.divergence_near_power),
-        bits(m.guard.divergence_out_power),
-        bits(m.powers.near_power),
-        bits(m.powers.residual_power),
-        m.transfers,
-        m.divergence_resets,
-    ]
-}
-
 fn main() {
     let buffer = vec![0.0; NUMBERS * MOST_PARTITIONS];
     let mut list = List {
@@ -338,10 +226,7 @@ fn main() {
         shadow: buffer.clone(),
         output: buffer.clone(),
         spectra: buffer,
-        branches: Branches::none(),
-        blocks: [0; MOST_PARTITIONS + 1],
-        is_foreign: false,
-        has_diverged: false,
+        counts: Counts::none(),
     };
     silence(&mut list);
     for partitions in [1, 2, 4, 13] {
@@ -356,12 +241,7 @@ fn main() {
     arrays(&mut list);
     numbers(&mut list);
     samples(&mut list);
-    list.branches.tell();
-    for (partitions, blocks) in list.blocks.iter().enumerate() {
-        if *blocks > 0 {
-            eprintln!("{blocks} blocks of P = {partitions}");
-        }
-    }
+    list.counts.tell_all_taken();
     print!("{}", list.text);
 }
 
@@ -479,31 +359,6 @@ fn counters(list: &mut List) {
         list.make(OUTPUT, INFINITE64);
         list.each(LOW, SOUND, 0.5, 1);
     }
-}
-
-/// As after an echo that was learnt, but with all arrays fresh.
-fn established(partitions: usize) -> TauCanceller {
-    let mut s = tau_reference::fresh(partitions, true);
-    s.far.far_active = true;
-    s.far.far_energy_peak = 50.0;
-    let m = &mut s.mic;
-    m.detector = Detector {
-        dtd_blocks: 64,
-        dtd_baseline: 0.6,
-        dtd_deviation: 0.01,
-        coherence_smooth: 0.9,
-        step_scale: 1.0,
-        ..Detector::default()
-    };
-    m.paths = Paths {
-        shadow_error_power: 1.0,
-        output_error_power: 2.0,
-        quiet_streak: 5,
-        rescue_streak: 0,
-    };
-    m.guard.divergence_near_power = 4.0;
-    m.guard.divergence_out_power = 1.0;
-    s
 }
 
 /// Where a test has its bound, and where it sees a NaN. Near is silent and the weights are 0, so that errors, energies and c are too.

@@ -1,7 +1,10 @@
 //! How often blocks took each branch, and whether every one was taken.
 
+#![allow(dead_code)] // a driver uses a part
+
 use crate::taken::Taken;
 use crate::tau_calls::{Outcome, TauCanceller};
+use crate::tau_reference::Seen;
 
 /// All that a list has to reach, in the order of the block's steps.
 const ALL: [&str; 51] = [
@@ -59,18 +62,18 @@ const ALL: [&str; 51] = [
 ];
 
 /// What one block was, for its branches.
-pub struct Ran<'a> {
-    pub before: &'a TauCanceller,
-    pub after: &'a TauCanceller,
-    pub outcome: Outcome,
-    pub taken: Taken,
-    pub far: &'a [f32],
-    pub flushes: bool,
-    pub after_divergence: bool,
+struct Ran<'a> {
+    before: &'a TauCanceller,
+    after: &'a TauCanceller,
+    outcome: Outcome,
+    taken: Taken,
+    far: &'a [f32],
+    flushes: bool,
+    after_divergence: bool,
 }
 
 impl Ran<'_> {
-    pub fn diverged(&self) -> bool {
+    fn diverged(&self) -> bool {
         let t = self.taken;
         t.shadow_diverged || t.update_diverged || t.diverged
     }
@@ -158,35 +161,101 @@ impl Ran<'_> {
     }
 }
 
-pub struct Branches {
+struct Branches {
     /// From creation, and where a line before set a part of the state.
     counts: [[u32; 2]; ALL.len()],
 }
 
 impl Branches {
-    pub fn none() -> Branches {
+    fn none() -> Branches {
         Branches {
             counts: [[0; 2]; ALL.len()],
         }
     }
 
-    pub fn add(&mut self, ran: &Ran, is_foreign: bool) {
+    fn add(&mut self, ran: &Ran, is_foreign: bool) {
         for (branch, count) in ALL.iter().zip(&mut self.counts) {
             count[usize::from(is_foreign)] += u32::from(ran.took(branch));
         }
     }
 
-    /// To standard error, and an end with status 1 where a branch has no block.
-    pub fn tell(&self) {
+    /// To standard error.
+    fn tell(&self) {
         eprintln!("{:40} {:>9} {:>9}", "blocks", "own state", "foreign");
         for (branch, [own, foreign]) in ALL.iter().zip(self.counts) {
             eprintln!("{branch:40} {own:>9} {foreign:>9}");
         }
-        for (branch, count) in ALL.iter().zip(self.counts) {
-            if count == [0, 0] {
-                eprintln!("no block takes the branch: {branch}");
-                std::process::exit(1);
+    }
+
+    fn not_taken(&self) -> Vec<&'static str> {
+        let all = ALL.iter().zip(self.counts);
+        all.filter(|(_, count)| *count == [0, 0])
+            .map(|(branch, _)| *branch)
+            .collect()
+    }
+}
+
+/// The branches of all blocks, and how many blocks there are of each number of partitions.
+pub struct Counts {
+    branches: Branches,
+    blocks: [u32; 33],
+    /// Whether something since the last creation set a part of the state, and whether the last block diverged.
+    pub is_foreign: bool,
+    pub has_diverged: bool,
+}
+
+impl Counts {
+    pub fn none() -> Counts {
+        Counts {
+            branches: Branches::none(),
+            blocks: [0; 33],
+            is_foreign: false,
+            has_diverged: false,
+        }
+    }
+
+    pub fn see(&mut self, seen: Seen) {
+        let ran = Ran {
+            before: seen.before,
+            after: &seen.blocked.state,
+            outcome: seen.blocked.outcome,
+            taken: seen.taken,
+            far: seen.far,
+            flushes: seen.flushes,
+            after_divergence: self.has_diverged,
+        };
+        self.branches.add(&ran, self.is_foreign);
+        self.blocks[seen.before.partitions] += 1;
+        self.has_diverged = ran.diverged();
+    }
+
+    pub fn blocks(&self) -> u32 {
+        self.blocks.iter().sum()
+    }
+
+    /// To standard error.
+    pub fn tell(&self) {
+        self.branches.tell();
+        for branch in self.branches.not_taken() {
+            eprintln!("no block takes the branch: {branch}");
+        }
+        for (partitions, blocks) in self.blocks.iter().enumerate() {
+            if *blocks > 0 {
+                eprintln!("{blocks} blocks of P = {partitions}");
             }
         }
+    }
+
+    /// And an end with status 1 where a branch has no block.
+    pub fn tell_all_taken(&self) {
+        self.tell();
+        if !self.branches.not_taken().is_empty() {
+            std::process::exit(1);
+        }
+    }
+
+    /// How many branches have no block.
+    pub fn missing(&self) -> usize {
+        self.branches.not_taken().len()
     }
 }

@@ -1,13 +1,275 @@
-//! The Rust's Tau, completed by document 01 (oracle/rust) and called as the port's is: a state goes in and comes back, and the buffers
-//! are lent. So an engine is made for each block, and what is not in the state, as its scratch, does not come from the block before.
+//! The Rust's Tau, completed by document 01 (oracle/rust) and called as the port's is: a state goes in and comes back, the buffers are
+//! lent, and document 01's refusals, of which the Rust has none, come first. So an engine is made for each block, and what is not in the
+//! state, as its scratch, does not come from the block before. `Continued` is the Rust as it is: one engine from call to call, with its
+//! own carry and its own cuts, for which the calls here must come to the same.
 
 #![allow(dead_code)] // a driver uses a part
 
+use crate::canceller::EchoCanceller;
 use crate::config::Suppression;
 use crate::fft::Complex;
 use crate::rust_tau::TauCanceller as Engine;
 use crate::taken::Taken;
 use crate::tau_calls::*;
+use crate::tau_lines::fields;
+
+pub const MOST_PARTITIONS: usize = 32;
+pub const MOST_PAIRS: usize = 4096;
+
+/// The shadow weights, the output weights and the far spectra.
+pub type Lent<'a> = [&'a mut [f64]; 3];
+
+/// One block, for whoever counts branches: the state before it, what it came to, the branches that it took, far, and whether it is the
+/// block of a flush.
+pub struct Seen<'a> {
+    pub before: &'a TauCanceller,
+    pub blocked: &'a Blocked,
+    pub taken: Taken,
+    pub far: &'a [f32; BLOCK],
+    pub flushes: bool,
+}
+
+pub type Watch<'a> = &'a mut dyn FnMut(Seen);
+
+/// Refusals 1, 2.
+pub fn create(partitions: usize, suppress: bool, lent: Lent) -> Started {
+    let refused = |refusal| Started {
+        refusal,
+        state: TauCanceller::zero(),
+    };
+    if !(1..=MOST_PARTITIONS).contains(&partitions) {
+        return refused(1);
+    }
+    if !are_sized(partitions, &lent) {
+        return refused(2);
+    }
+    let engine = engine(partitions, suppress);
+    keep_all(&engine, lent);
+    Started {
+        refusal: 0,
+        state: read_state(&engine, [[0.0; BLOCK]; 2], 0),
+    }
+}
+
+/// Refusals 6, 2, 3, 4, 5. A sample that is not finite is 0.0 from here on; one that a state has in its carry stays as it is.
+pub fn process(
+    state: &TauCanceller,
+    mut lent: Lent,
+    near: &[f32],
+    far: &[f32],
+    out: &mut [f32],
+    watch: Watch,
+) -> Answer {
+    let refusal = match state_refusal(state, &lent) {
+        0 => pairs_refusal(state, near, far, out),
+        refusal => refusal,
+    };
+    if refusal != 0 {
+        return answered(refusal, 0, state, Outcome::NotRun);
+    }
+    let mut state = *state;
+    let mut last = Outcome::NotRun;
+    let mut delivered = 0;
+    for (x, y) in near.iter().zip(far) {
+        state.near_carry[state.carried] = finite_or_zero(*x);
+        state.far_carry[state.carried] = finite_or_zero(*y);
+        state.carried += 1;
+        if state.carried == BLOCK {
+            state.carried = 0;
+            let (near, far) = (state.near_carry, state.far_carry);
+            let blocked = watched(&state, [&near, &far], BLOCK, false, &mut lent, watch);
+            out[delivered..][..BLOCK].copy_from_slice(&blocked.block);
+            delivered += BLOCK;
+            (state, last) = (blocked.state, blocked.outcome);
+        }
+    }
+    answered(0, delivered, &state, last)
+}
+
+/// Refusals 6, 2, 5. What the state keeps in its carry stays there: the padded block is a copy.
+pub fn flush(state: &TauCanceller, mut lent: Lent, out: &mut [f32], watch: Watch) -> Answer {
+    let carried = state.carried;
+    let refusal = match state_refusal(state, &lent) {
+        0 if out.len() < carried => 5,
+        refusal => refusal,
+    };
+    if refusal != 0 || carried == 0 {
+        return answered(refusal, 0, state, Outcome::NotRun);
+    }
+    let mut state = *state;
+    state.carried = 0;
+    let (mut near, mut far) = (state.near_carry, state.far_carry);
+    near[carried..].fill(0.0);
+    far[carried..].fill(0.0);
+    let blocked = watched(&state, [&near, &far], carried, true, &mut lent, watch);
+    out[..carried].copy_from_slice(&blocked.block[..carried]);
+    answered(0, carried, &blocked.state, blocked.outcome)
+}
+
+/// Refusals 6, 2. The carry is empty and all of it 0.0, as creation leaves it.
+pub fn reset(state: &TauCanceller, lent: Lent) -> Started {
+    let refusal = state_refusal(state, &lent);
+    if refusal != 0 {
+        return Started {
+            refusal,
+            state: *state,
+        };
+    }
+    let mut engine = set(state);
+    load(&mut engine, &lent);
+    engine.reset();
+    keep_all(&engine, lent);
+    Started {
+        refusal: 0,
+        state: read_state(&engine, [[0.0; BLOCK]; 2], 0),
+    }
+}
+
+fn are_sized(partitions: usize, lent: &Lent) -> bool {
+    lent.iter()
+        .all(|buffer| buffer.len() == NUMBERS * partitions)
+}
+
+/// 6, then 2.
+fn state_refusal(state: &TauCanceller, lent: &Lent) -> u32 {
+    let in_range = (1..=MOST_PARTITIONS).contains(&state.partitions)
+        && state.far.head < state.partitions
+        && state.carried < BLOCK
+        && state.mic.paths.rescue_streak <= 7
+        && state.mic.detector.dtd_blocks <= 64;
+    if !in_range {
+        return 6;
+    }
+    if !are_sized(state.partitions, lent) {
+        return 2;
+    }
+    0
+}
+
+/// 3, then 4, then 5.
+fn pairs_refusal(state: &TauCanceller, near: &[f32], far: &[f32], out: &[f32]) -> u32 {
+    if near.len() != far.len() {
+        return 3;
+    }
+    if near.len() > MOST_PAIRS {
+        return 4;
+    }
+    if out.len() < (state.carried + near.len()) / BLOCK * BLOCK {
+        return 5;
+    }
+    0
+}
+
+fn finite_or_zero(x: f32) -> f32 {
+    if x.is_finite() {
+        x
+    } else {
+        0.0
+    }
+}
+
+fn watched(
+    state: &TauCanceller,
+    [near, far]: [&[f32; BLOCK]; 2],
+    valid: usize,
+    flushes: bool,
+    lent: &mut Lent,
+    watch: &mut dyn FnMut(Seen),
+) -> Blocked {
+    let [shadow, output, spectra] = lent;
+    let (blocked, taken) = run_block(state, near, far, valid, !flushes, [shadow, output, spectra]);
+    watch(Seen {
+        before: state,
+        blocked: &blocked,
+        taken,
+        far,
+        flushes,
+    });
+    blocked
+}
+
+/// The report is of the last block, and but for its outcome it is what the state says.
+fn answered(refusal: u32, delivered: usize, state: &TauCanceller, last: Outcome) -> Answer {
+    Answer {
+        refusal,
+        delivered,
+        state: *state,
+        transfers: state.mic.transfers,
+        divergence_resets: state.mic.divergence_resets,
+        double_talk: state.mic.detector.double_talk,
+        outcome: last.number(),
+        leak: last.leak(),
+    }
+}
+
+/// The Rust's engine, kept from call to call.
+pub struct Continued(Engine);
+
+impl Continued {
+    pub fn created(partitions: usize, suppress: bool) -> Continued {
+        Continued(engine(partitions, suppress))
+    }
+
+    /// From a state that some other engine left, or none.
+    pub fn from(state: &TauCanceller, lent: Lent) -> Continued {
+        let mut engine = set(state);
+        engine.near_carry = state.near_carry[..state.carried].to_vec();
+        engine.far_carry = state.far_carry[..state.carried].to_vec();
+        load(&mut engine, &lent);
+        Continued(engine)
+    }
+
+    /// The samples delivered.
+    pub fn process(&mut self, near: &[f32], far: &[f32]) -> Vec<f32> {
+        let mut samples = Vec::new();
+        let Ok(()) = self.0.process(near, far, &mut samples);
+        samples
+    }
+
+    pub fn flush(&mut self) -> Vec<f32> {
+        let mut samples = Vec::new();
+        let Ok(()) = self.0.flush(&mut samples);
+        samples
+    }
+
+    pub fn reset(&mut self) {
+        self.0.reset();
+    }
+
+    /// What it reports: the transfers, the resets, and whether there is double talk.
+    pub fn report(&self) -> (u64, u64, bool) {
+        let metrics = self.0.metrics();
+        (
+            self.0.transfers,
+            metrics.divergence_resets,
+            metrics.double_talk,
+        )
+    }
+
+    /// The state. Of the carry it keeps what waits alone: the rest is as in the state that it is held against.
+    pub fn state(&self, beside: &TauCanceller) -> TauCanceller {
+        let waits = self.0.near_carry.len();
+        let (mut near, mut far) = (beside.near_carry, beside.far_carry);
+        near[..waits].copy_from_slice(&self.0.near_carry);
+        far[..waits].copy_from_slice(&self.0.far_carry);
+        read_state(&self.0, [near, far], waits)
+    }
+
+    /// Whether it stands where this state and these buffers do.
+    pub fn is_at(&self, state: &TauCanceller, buffers: [&[f64]; 3]) -> bool {
+        let [a, b, c] = &self.buffers();
+        let own = fields(&self.state(state), [a, b, c]);
+        own == fields(state, buffers)
+    }
+
+    fn buffers(&self) -> [Vec<f64>; 3] {
+        let e = &self.0;
+        [&e.shadow_weights, &e.output_weights, &e.far_spectra].map(|numbers| {
+            let parts = numbers.iter();
+            parts.flat_map(|x| [x.re, x.im]).collect()
+        })
+    }
+}
 
 /// The state that creation gives.
 pub fn fresh(partitions: usize, suppress: bool) -> TauCanceller {
@@ -21,16 +283,12 @@ pub fn run_block(
     far: &[f32; BLOCK],
     valid: usize,
     adapt: bool,
-    [shadow, output, spectra]: [&mut [f64]; 3],
+    lent: Lent,
 ) -> (Blocked, Taken) {
     let mut engine = set(state);
-    engine.shadow_weights = complex(shadow);
-    engine.output_weights = complex(output);
-    engine.far_spectra = complex(spectra);
+    load(&mut engine, &lent);
     engine.run_block(near, far, valid, adapt);
-    keep(&engine.shadow_weights, shadow);
-    keep(&engine.output_weights, output);
-    keep(&engine.far_spectra, spectra);
+    keep_all(&engine, lent);
     let taken = engine.taken;
     let blocked = Blocked {
         state: read_state(&engine, [state.near_carry, state.far_carry], state.carried),
@@ -151,6 +409,18 @@ fn array<T: Copy, const N: usize>(numbers: &[T]) -> [T; N] {
 fn complex(numbers: &[f64]) -> Vec<Complex> {
     let parts = numbers.chunks_exact(2);
     parts.map(|part| Complex::new(part[0], part[1])).collect()
+}
+
+fn load(engine: &mut Engine, [shadow, output, spectra]: &Lent) {
+    engine.shadow_weights = complex(shadow);
+    engine.output_weights = complex(output);
+    engine.far_spectra = complex(spectra);
+}
+
+fn keep_all(engine: &Engine, [shadow, output, spectra]: Lent) {
+    keep(&engine.shadow_weights, shadow);
+    keep(&engine.output_weights, output);
+    keep(&engine.far_spectra, spectra);
 }
 
 fn keep(from: &[Complex], to: &mut [f64]) {

@@ -1,0 +1,170 @@
+//! A state of Tau as the fields of a line, and arrays by the recipes that a line has for them, as crates/tau_lines reads them.
+
+#![allow(dead_code)] // a driver uses a part
+
+use crate::inputs::{bits, halves, hash, hash32, Noise};
+use crate::inputs::{DIGITS, DIGITS32, SIGN, SIGN32, SIZES};
+use crate::kinds::Kind;
+use crate::tau_calls::*;
+use crate::tau_reference;
+
+/// 1/16 to 1/8, and 2^-7 to 2^-6.
+pub const LOW: Kind = [0x7b << 23, SIGN32 | DIGITS32];
+pub const LOWER: Kind = [0x78 << 23, SIGN32 | DIGITS32];
+
+/// Kinds of f64s, by base and mask: 2^-15 to 2 in size; the same, none negative; 2^1008 to 2^1023; subnormal; infinite or 1; NaN, not
+/// signalling (kinds.rs), or 1.5 to 2.
+pub const SOUND64: Kind = [0x3ff << 52, SIGN | SIZES | DIGITS];
+pub const POWER64: Kind = [0x3ff << 52, SIZES | DIGITS];
+pub const LARGE64: Kind = [0x7fe << 52, SIGN | SIZES | DIGITS];
+pub const SUBNORMAL64: Kind = [0, SIGN | DIGITS];
+pub const INFINITE64: Kind = [0x7ff << 52, SIGN | 0x400 << 52];
+pub const NAN64: Kind = [0xfff << 51, SIGN | 0x400 << 52 | DIGITS >> 1];
+
+/// The arrays, by the numbers that a line has for them.
+pub const NEAR_CARRY: u64 = 0;
+pub const FAR_CARRY: u64 = 1;
+pub const WINDOW: u64 = 2;
+pub const MEAN: u64 = 3;
+pub const ECHO: u64 = 4;
+pub const ERROR: u64 = 5;
+pub const GAIN: u64 = 6;
+pub const ERROR_WINDOW: u64 = 7;
+pub const SHADOW: u64 = 8;
+pub const OUTPUT: u64 = 9;
+pub const SPECTRA: u64 = 10;
+
+/// How an array is made: noise, with one number of its own where the array has the place.
+#[derive(Clone, Copy)]
+pub struct Recipe64 {
+    pub word: u64,
+    pub kind: Kind,
+    pub place: u64,
+    pub mark: u64,
+}
+
+impl Recipe64 {
+    pub fn fields(self, array: u64) -> [u64; 8] {
+        let [base, mask] = self.kind;
+        [self.word, base, mask, self.place, self.mark, array, 0, 0]
+    }
+
+    pub fn make(self, array: u64, s: &mut TauCanceller, lent: [&mut [f64]; 3]) {
+        let Recipe64 {
+            word,
+            kind: [base, mask],
+            place,
+            mark,
+        } = self;
+        let mut noise = Noise { word, base, mask };
+        let [shadow, output, spectra] = lent;
+        let q = &mut s.mic.suppressor;
+        let samples: Option<&mut [f32]> = match array {
+            NEAR_CARRY => Some(&mut s.near_carry),
+            FAR_CARRY => Some(&mut s.far_carry),
+            WINDOW => Some(&mut s.far.window),
+            ERROR_WINDOW => Some(&mut q.error_window),
+            _ => None,
+        };
+        if let Some(samples) = samples {
+            samples.fill_with(|| noise.sample());
+            if let Some(x) = samples.get_mut(place as usize) {
+                *x = f32::from_bits(mark as u32);
+            }
+            return;
+        }
+        let numbers: &mut [f64] = match array {
+            MEAN => &mut s.mic.far_power_mean,
+            ECHO => &mut q.echo_power,
+            ERROR => &mut q.error_power,
+            GAIN => &mut q.gain,
+            SHADOW => shadow,
+            OUTPUT => output,
+            _ => spectra,
+        };
+        numbers.fill_with(|| noise.number());
+        if let Some(x) = numbers.get_mut(place as usize) {
+            *x = f64::from_bits(mark);
+        }
+    }
+}
+
+/// Fields 11 to 38: the numbers of the state that are in no array, then its arrays and what is lent of the buffers.
+pub fn fields(s: &TauCanceller, [shadow, output, spectra]: [&[f64]; 3]) -> Vec<u64> {
+    let q = &s.mic.suppressor;
+    let arrays = [
+        hash32(&s.near_carry),
+        hash32(&s.far_carry),
+        hash32(&s.far.window),
+        hash(&s.mic.far_power_mean),
+        hash(&q.echo_power),
+        hash(&q.error_power),
+        hash(&q.gain),
+        hash32(&q.error_window),
+        hash(shadow),
+        hash(output),
+        hash(spectra),
+    ];
+    scalars(s).into_iter().chain(arrays).collect()
+}
+
+/// The numbers of the state that are in no array, as fields 11 to 27.
+fn scalars(s: &TauCanceller) -> [u64; 17] {
+    let m = &s.mic;
+    let (d, p) = (m.detector, m.paths);
+    let flags = [
+        s.suppress,
+        s.far.far_active,
+        d.double_talk,
+        d.dtd_collapsed,
+        d.protect_output,
+    ];
+    let flags = flags
+        .iter()
+        .rev()
+        .fold(0, |sum, is| 2 * sum + usize::from(*is));
+    [
+        halves([s.partitions, s.carried]),
+        halves([s.far.head, flags]),
+        bits(s.far.far_energy_peak),
+        halves([d.dtd_blocks as usize, p.rescue_streak as usize]),
+        bits(d.dtd_baseline),
+        bits(d.dtd_deviation),
+        bits(d.coherence_smooth),
+        bits(d.step_scale),
+        bits(p.shadow_error_power),
+        bits(p.output_error_power),
+        p.quiet_streak.into(),
+        bits(m.guard.divergence_near_power),
+        bits(m.guard.divergence_out_power),
+        bits(m.powers.near_power),
+        bits(m.powers.residual_power),
+        m.transfers,
+        m.divergence_resets,
+    ]
+}
+
+/// As after an echo that was learnt, but with all arrays fresh.
+pub fn established(partitions: usize) -> TauCanceller {
+    let mut s = tau_reference::fresh(partitions, true);
+    s.far.far_active = true;
+    s.far.far_energy_peak = 50.0;
+    let m = &mut s.mic;
+    m.detector = Detector {
+        dtd_blocks: 64,
+        dtd_baseline: 0.6,
+        dtd_deviation: 0.01,
+        coherence_smooth: 0.9,
+        step_scale: 1.0,
+        ..Detector::default()
+    };
+    m.paths = Paths {
+        shadow_error_power: 1.0,
+        output_error_power: 2.0,
+        quiet_streak: 5,
+        rescue_streak: 0,
+    };
+    m.guard.divergence_near_power = 4.0;
+    m.guard.divergence_out_power = 1.0;
+    s
+}
