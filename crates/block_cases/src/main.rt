@@ -6,30 +6,19 @@
 //     8         the outcome of the last block: 0 none run, 1 no move, 2 a rescue, 3 a move
 //     9         its leak, and 0 where it is no move
 //     10        the hash of what it delivers, all 256 samples; where none is run, of zeros
-//     11        halves: partitions, carried
-//     12        halves: head, flags: 1 suppress, 2 far_active, 4 double_talk, 8 dtd_collapsed, 16 protect_output
-//     13        far_energy_peak
-//     14        halves: dtd_blocks, rescue_streak
-//     15 to 18  dtd_baseline, dtd_deviation, coherence_smooth, step_scale
-//     19, 20    shadow_error_power, output_error_power
-//     21        quiet_streak
-//     22, 23    divergence_near_power, divergence_out_power
-//     24, 25    near_power, residual_power
-//     26, 27    transfers, divergence_resets
-//     28 to 35  the hashes of near_carry, far_carry, window, far_power_mean, echo_power, error_power, gain, error_window
-//     36 to 38  the hashes of the shadow weights, the output weights and the far spectra, as many as the partitions have
+//     11 to 38  the state and the three buffers, as many of a buffer's numbers as the partitions have (crate `tau_lines`)
 //
-// A field without a use is 0. A number of the state is the bits of an f64, and every NaN the same.
+// A field without a use is 0.
+mod got;
 mod made;
-mod state;
 mod steps;
 
 use cases::Tally;
-use state::Got;
-use state::fresh;
-use state::numbers_of;
+use got::Got;
+use got::fields_of;
 use steps::begun;
 use steps::done;
+use tau_lines::fresh;
 use tau_steps::state::TauCanceller;
 ghost use mathlib.Core.Path.{_≡_};
 ghost use lib.ListN.{length};
@@ -137,7 +126,7 @@ fn finished(tally: Tally, line: &[u8], got: Got, shadow: u64, output: u64, spect
     if !got.is_known {
         return refused(tally, state);
     }
-    let numbers = numbers_of(got, shadow, output, spectra);
+    let numbers = fields_of(got, shadow, output, spectra);
     Turn {
         tally: compared(tally, line, numbers),
         state,

@@ -1,0 +1,63 @@
+// What a line comes to.
+use tau_block::Blocked;
+use tau_lines::numbers_of;
+use tau_steps::report::leak_of;
+use tau_steps::report::number;
+use tau_steps::state::TauCanceller;
+
+// What a line comes to, but for the lent buffers: where there is a step as it says, the state, and the last block's outcome by its number,
+// its leak's bits and its samples' hash.
+pub struct Got {
+    pub is_known: bool,
+    pub state: TauCanceller,
+    pub outcome: u64,
+    pub leak: u64,
+    pub hash: u64,
+}
+
+pub fn after(b: Blocked) -> Got {
+    let state = b.state;
+    let block = b.block;
+    let outcome = b.outcome;
+    Got {
+        is_known: true,
+        state,
+        outcome: number(outcome) as u64,
+        leak: numbers::to_bits(leak_of(outcome)),
+        hash: hash_of_block(block),
+    }
+}
+
+// Where no block is run.
+pub fn kept(state: TauCanceller) -> Got {
+    let block = [0.0f32; 256];
+    Got {
+        is_known: true,
+        state,
+        outcome: 0,
+        leak: 0,
+        hash: hash_of_block(block),
+    }
+}
+
+// Where a line is of no step.
+pub fn unknown(state: TauCanceller) -> Got {
+    Got {
+        is_known: false,
+        state,
+        outcome: 0,
+        leak: 0,
+        hash: 0,
+    }
+}
+
+// Fields 8 to 38.
+pub fn fields_of(got: Got, shadow: u64, output: u64, spectra: u64) -> [u64; 31] {
+    let state = got.state;
+    let first = [got.outcome, got.leak, got.hash];
+    numbers_of(first, state, shadow, output, spectra)
+}
+
+fn hash_of_block(samples: [f32; 256]) -> u64 {
+    cases::hash_of32(&samples)
+}
