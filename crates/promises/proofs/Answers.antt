@@ -1,12 +1,18 @@
 -- One lemma, and its instances. Assumes nothing.
 use mathlib.Core.Path.{_≡_, sym, _∙_}
-use Rattle.promises.specs.Answers.{One, Numbers, Transforms, Rho, Tau}
+use Rattle.promises.specs.Answers.{One, Numbers, Tables, Complexes, Transforms, Rho, Tau}
 
 pub one : {A : Type 0} (d : A) → One d
 one d x y h k = h ∙ sym k
 
 pub numbers : Numbers
-numbers A B f a = one (f a)
+numbers x y z b xs out = (one _, one _, one _, one _, one _, one _, one _, one _, one _, one _, one _, one _, one _)
+
+pub tables : Tables
+tables x = (one _, one _, one _, one _)
+
+pub complexes : Complexes
+complexes x y a b = (one _, one _, one _, one _, one _, one _)
 
 pub transforms : Transforms
 transforms x t out s r inverse = (one _, one _, one _, one _, one _)

@@ -1,19 +1,20 @@
 -- Demand 1, from what each crate proves of its calls. Assumes nothing.
 use mathlib.Core.Path.{_≡_, refl, sym, ap, _∙_}
-use mathlib.Core.Bool.{Bool, true, false}
+use mathlib.Core.Bool.{Bool, true, false, _&&_}
 use mathlib.Core.List.{List, [], _∷_, _++_}
 use Prim.Native.Nat.{ℕ}
 use lib.Dec.{eqb}
 use lib.Ieee.{Float}
 use lib.ListN.{length}
-use Rattle.laws.specs.Choice.{pick, pick-yes, pick-no}
+use Rattle.laws.specs.Choice.{pick, pick-yes, pick-no, pick-if}
+use Rattle.fft.specs.Calls.{Wrote, forwardOf, inverseOf}
 use Rattle.rho.specs.Calls as rho
 use Rattle.rho.proofs.Counts as rhoCounts
 use Rattle.tau_steps.specs.Ranges.{rangedOf}
 use Rattle.tau.specs.Fresh.{emptyOf}
 use Rattle.tau.specs.Calls as tau
 use Rattle.tau.proofs.Accepted as accepted
-use Rattle.promises.specs.Demand1.{Row, row, firstOf, Holding, Exactly, tauCreate, tauProcess, tauFlush, tauReset, tauUntouched, unbegunOf, tauUnbegun, rhoCreate, rhoProcess, rhoState, rhoUntouched}
+use Rattle.promises.specs.Demand1.{Row, row, firstOf, Holding, Exactly, Transform, tauCreate, tauProcess, tauFlush, tauReset, tauUntouched, unbegunOf, tauUnbegun, rhoCreate, rhoProcess, rhoState, rhoUntouched}
 
 -- ---- the table
 
@@ -36,6 +37,19 @@ unfolding pick
 two true true x = refl
 two true false x = refl
 two false b x = refl
+
+-- ---- the real transform
+
+pub transform : Transform
+unfolding firstOf forwardOf inverseOf
+transform x out =
+    let f = eqb (length x) 512 && eqb (length out) 514 in
+    let i = eqb (length x) 514 && eqb (length out) 512 in (
+      pick-if (λ (w : Wrote). w .answer ≡ pick f 0 2) f (λ h. pick-yes _ _ _ h refl) (λ h. pick-no _ _ _ h refl),
+      pick-if (λ (w : Wrote). w .answer ≡ pick i 0 2) i (λ h. pick-yes _ _ _ h refl) (λ h. pick-no _ _ _ h refl),
+      pick-if (λ (w : Wrote). (w .answer ≡ 0 → ⊥) → w .out ≡ out) f (λ _ h. absurd (h refl)) (λ _ _. refl),
+      pick-if (λ (w : Wrote). (w .answer ≡ 0 → ⊥) → w .out ≡ out) i (λ _ h. absurd (h refl)) (λ _ _. refl),
+    )
 
 -- ---- TauCanceller
 

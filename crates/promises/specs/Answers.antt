@@ -1,11 +1,21 @@
 -- A promise admits one answer: two answers that meet it, each with every lent buffer after the call, are the same. Every public function's
--- contract is an equation to a definition, so each is an instance of one lemma; here they stand for each call that writes or refuses.
--- Statements; proved in proofs/Answers.antt.
+-- contract is an equation to a definition (`widen`'s to its argument), so each is an instance of one lemma. Statements; proved in
+-- proofs/Answers.antt.
 use mathlib.Core.Path.{_≡_}
 use mathlib.Core.Bool.{Bool}
 use mathlib.Core.List.{List}
 use Prim.Native.Nat.{ℕ}
-use lib.Ieee.{Float}
+use lib.Ieee.{Float, nan, binary32, binary64, ofBits, toBits}
+use lib.ListN.{length, getD}
+use Rattle.laws.specs.Loops.{over}
+use Rattle.numbers.specs.Order.{absOf, minOf, maxOf, clampOf}
+use Rattle.numbers.specs.Finite.{isFinite, finiteOrZero}
+use Rattle.numbers.specs.Narrowing.{narrowOf}
+use Rattle.trig.specs.Trig.{detSin, detCos}
+use Rattle.trig.specs.Tables.{recombination}
+use Rattle.complex.specs.declared.Complex.{Complex}
+use Rattle.complex.specs.Complexes.{newC, conjC, addC, subC, mulC, scaleC}
+use Rattle.fft.specs.Reversal.{reversalTable}
 use Rattle.fft.specs.Calls as fft
 use Rattle.rho.specs.Sample as sample
 use Rattle.rho.specs.Calls as rho
@@ -16,9 +26,30 @@ use Rattle.tau.specs.Calls as tau
 abbrev pub One : {A : Type 0} → A → Type 0
 One {A} d = (x y : A) → x ≡ d → y ≡ d → x ≡ y
 
--- numbers, trig, complex: the answer alone, of any definition f
-abbrev pub Numbers : Type 1
-Numbers = (A B : Type 0) (f : A → B) (a : A) → One (f a)
+-- numbers: x, y, z are numbers, b a pattern, xs and out lists
+abbrev pub Numbers : Type 0
+Numbers = (x y z : Float) (b : ℕ) (xs out : List Float)
+    → One (absOf x)
+    × One (minOf x y)
+    × One (maxOf x y)
+    × One (clampOf x y z)
+    × One (isFinite x)
+    × One (finiteOrZero x)
+    × One (narrowOf x)
+    × One (over (length xs) (λ k _. narrowOf (getD xs k nan)) out)
+    × One (toBits binary32 (narrowOf x))
+    × One (ofBits binary64 b)
+    × One (ofBits binary32 b)
+    × One (toBits binary64 x)
+    × One (toBits binary32 x)
+
+-- trig, and the two tables
+abbrev pub Tables : Type 0
+Tables = (x : Float) → One (detSin x) × One (detCos x) × One recombination × One reversalTable
+
+-- the complex number
+abbrev pub Complexes : Type 0
+Complexes = (x y : Float) (a b : Complex) → One (newC x y) × One (conjC a) × One (addC a b) × One (subC a b) × One (mulC a b) × One (scaleC a x)
 
 -- the transform
 abbrev pub Transforms : Type 0

@@ -1,13 +1,14 @@
 -- Demand 1: "Any samples, lengths, settings or stored state may arrive. Bad ones get refusals 1 to 6 .. in its order, deliver nothing and
 -- change no buffer and no state." Statements; proved in proofs/Demand1.antt.
 use mathlib.Core.Path.{_≡_}
-use mathlib.Core.Bool.{Bool, true, false}
+use mathlib.Core.Bool.{Bool, true, false, _&&_}
 use mathlib.Core.List.{List, [], _∷_, _++_}
 use Prim.Native.Nat.{ℕ}
 use lib.Dec.{T, eqb, leb}
 use lib.Ieee.{Float}
 use lib.ListN.{length}
 use Rattle.laws.specs.Choice.{pick}
+use Rattle.fft.specs.Calls.{forwardOf, inverseOf}
 use Rattle.rho.specs.Sample as sample
 use Rattle.rho.specs.Calls as rho
 use Rattle.rho.specs.State.{tapsOf}
@@ -40,6 +41,15 @@ abbrev pub Exactly : Type 0
 Exactly =
     ((rs : List Row) → Holding rs → firstOf rs ≡ 0)
     × ((before after : List Row) (r : Row) → Holding before → r .holds ≡ false → firstOf (before ++ (r ∷ after)) ≡ r .number)
+
+-- ---- the real transform: "(512 samples, 514 spectrum numbers) only 2", with nothing written
+
+abbrev pub Transform : Type 0
+Transform = (x out : List Float)
+    → (forwardOf x out .answer ≡ firstOf (row (eqb (length x) 512 && eqb (length out) 514) 2 ∷ []))
+    × (inverseOf x out .answer ≡ firstOf (row (eqb (length x) 514 && eqb (length out) 512) 2 ∷ []))
+    × ((forwardOf x out .answer ≡ 0 → ⊥) → forwardOf x out .out ≡ out)
+    × ((inverseOf x out .answer ≡ 0 → ⊥) → inverseOf x out .out ≡ out)
 
 -- ---- TauCanceller
 
