@@ -8,15 +8,30 @@
 
 #[allow(dead_code)] // the Rust's text, whole
 mod canceller;
+#[allow(dead_code)]
+mod config;
 mod error;
 mod fft;
 mod host;
+mod house_detector;
 mod inputs;
 mod kinds;
 mod reference;
 mod rho_calls;
 mod rho_host;
 mod rust_rho;
+#[allow(dead_code)]
+mod rust_tau;
+#[allow(dead_code)]
+mod taken;
+#[allow(dead_code)]
+mod tau_calls;
+#[allow(dead_code)]
+mod tau_host;
+#[allow(dead_code)]
+mod tau_lines;
+#[allow(dead_code)]
+mod tau_reference;
 
 use canceller::EchoCanceller;
 use fft::{Complex, ComplexFft, RealFft};
@@ -24,6 +39,7 @@ use inputs::{turned, Noise};
 use kinds::{samples, Kind, LOUD, QUARTER, SOUND};
 use reference::{complexes, numbers, POINTS, SAMPLES, SPECTRUM};
 use rust_rho::RhoCanceller;
+use tau_reference::Continued;
 use std::array::from_fn;
 use std::hint::black_box;
 use std::time::Instant;
@@ -32,8 +48,14 @@ const CALLS: usize = 8;
 const ROUNDS: usize = 100;
 const BATCHES: usize = 100;
 
+/// Of a call that takes as long as a block of Tau.
+const FEW: usize = 20;
+
 /// Of Rho in a call.
 const PAIRS: usize = 16;
+
+/// Of Tau in a call: a block.
+const BLOCK: usize = 256;
 
 fn main() {
     println!("| | Rust, ns | Rattle, ns | ratio | its 10th to 90th percentile |");
@@ -50,6 +72,12 @@ fn main() {
             QUARTER,
         );
         rho(&format!("Rho, {taps} taps, a frozen pair"), tail, LOUD);
+    }
+    for partitions in [1, 4, 13, 32] {
+        for (flag, says) in [(true, "on"), (false, "off")] {
+            let name = format!("Tau, a block, P = {partitions}, suppression {says}");
+            tau(&name, partitions, flag);
+        }
     }
 }
 
@@ -190,6 +218,37 @@ fn rho(name: &str, tail: u16, near: Kind) {
     race(name, PAIRS, pairs, rust, port);
 }
 
+/// A block of a stream that goes on. Far is sound, and near half of it with sound of its own a hundredth as loud, so that the shadow
+/// learns and the output moves.
+fn tau(name: &str, partitions: usize, suppress: bool) {
+    let mut sounds = sounds();
+    let mut pairs = move || {
+        let far = samples(sounds().word, SOUND, BLOCK);
+        let own = samples(sounds().word, SOUND, BLOCK);
+        let near = own.iter().zip(&far).map(|(a, x)| 0.5 * x + 0.01 * a);
+        [near.collect(), far]
+    };
+    let mut engine = Continued::created(partitions, suppress);
+    let mut buffers = [0; 3].map(|_| vec![0.0; SPECTRUM * partitions]);
+    let mut state = tau_host::create(partitions, suppress, buffers.each_mut().map(|b| &mut b[..])).state;
+    let mut out = [0.0; BLOCK];
+    let mut rust = |[near, far]: &mut [Vec<f32>; 2]| {
+        black_box(&engine.process(near, far));
+    };
+    let mut port = |[near, far]: &mut [Vec<f32>; 2]| {
+        let lent = buffers.each_mut().map(|b| &mut b[..]);
+        state = tau_host::process(state, lent, near, far, &mut out).state;
+        black_box(&out);
+    };
+    // until the detector is established, and the output has moved
+    for _ in 0..100 {
+        let mut input = pairs();
+        rust(&mut input);
+        port(&mut input);
+    }
+    race(name, 1, pairs, rust, port);
+}
+
 /// One line of the table: times of a call, divided by how many things it does.
 fn race<T: Clone>(
     name: &str,
@@ -199,7 +258,8 @@ fn race<T: Clone>(
     mut port: impl FnMut(&mut T),
 ) {
     let (mut rusts, mut ports, mut ratios) = (Vec::new(), Vec::new(), Vec::new());
-    for _ in 0..BATCHES {
+    let batches = if name.starts_with("Tau") { FEW } else { BATCHES };
+    for _ in 0..batches {
         let (mut a, mut b) = (Vec::new(), Vec::new());
         for round in 0..ROUNDS {
             let mut for_rust: Vec<T> = (0..CALLS).map(|_| make()).collect();
