@@ -1,5 +1,6 @@
 pub mod Products
 pub mod Runs
+pub mod Groups
 pub mod Steps
 pub mod Accepted
 pub mod Going

@@ -94,7 +94,7 @@ and-assoc : (a b c : Bool) → ((a && b) && c) ≡ (a && (b && c))
 and-assoc true b c = refl
 and-assoc false b c = refl
 
-verdict-from : (g : ℕ → Bool) (b : Bool) (n : ℕ) → iter (λ k s. s && g k) b n ≡ (b && iter (λ k s. s && g k) true n)
+pub verdict-from : (g : ℕ → Bool) (b : Bool) (n : ℕ) → iter (λ k s. s && g k) b n ≡ (b && iter (λ k s. s && g k) true n)
 unfolding iter
 verdict-from g b zero = and-true b
 verdict-from g b (suc n) = ap (λ (s : Bool). s && g n) (verdict-from g b n) ∙ and-assoc b (iter (λ k s. s && g k) true n) (g n)

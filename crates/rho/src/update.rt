@@ -1,11 +1,12 @@
 // The NLMS update: each weight takes its step, in the lag order of the sums, and where one is not finite all are cleared.
 ghost use mathlib.Core.Path.{_≡_};
 ghost use mathlib.Core.Bool.{true, _&&_};
-ghost use Prim.Native.Nat.{_+_, _-_, _<_, _≤_};
+ghost use Prim.Native.Nat.{ℕ, _+_, _-_, _<_, _≤_};
 ghost use lib.ListN.{length, getD, replicate};
-ghost use lib.Ieee.{nan};
+ghost use lib.Ieee.{nan, binary32, binary64, add, mul};
 ghost use Rattle.laws.specs.Loops.{iter, overAt};
 ghost use Rattle.numbers.specs.Finite.{plus, isFinite};
+ghost use Rattle.numbers.specs.Narrowing.{narrowOf};
 ghost use Rattle.rho.specs.Sample.{scaleOf, nudgeOf, updatedOf, soundOf, oneMore, adaptedOf};
 
 const STEP_SIZE: f64 = 0.5;
@@ -44,7 +45,8 @@ fn nudge(scale: f64, x: f32, weight: f32) -> f32
     weight + numbers::narrow(scale * numbers::widen(x))
 }
 
-// One run: the weights from `from` upward by the history from `top` downward. Whether all of them are finite.
+// One run: the weights from `from` upward by the history from `top` downward. Whether all of them are finite. In groups, since the
+// compiler takes one weight after the other where each is narrowed by itself.
 fn update_run(
     scale: f64,
     history: &[f32],
@@ -61,9 +63,81 @@ fn update_run(
 {
     let mut sound = true;
     let mut k = 0usize;
+    while 32 <= count - k {
+        let fine = update_group(scale, history, top + 1 - k, weights, from + k);
+        sound = sound & fine;
+        k += 32;
+    }
+    let rest = update_rest(scale, history, top + 1 - k, weights, from + k, count - k);
+    sound & rest
+}
+
+// The 32 weights from `from` upward by the history below place `upper`, downward. Whether all of them are finite.
+fn update_group(scale: f64, history: &[f32], upper: usize, weights: &mut [f32], from: usize) -> bool
+    requires { ⌜ from + 32 ≤ length (now weights) ⌝ }
+    requires { ⌜ 32 ≤ upper ⌝ }
+    requires { ⌜ upper ≤ length (now history) ⌝ }
+    ensures { λ _. ⌜ now (weights .exit) ≡ overAt from 32 (λ k w. nudgeOf scale (getD (now (history .entry)) (upper - 1 - k) nan) w) (now (weights .entry)) ⌝ }
+    ensures { λ r. ⌜ r ≡ iter (λ k sound. sound && isFinite (nudgeOf scale (getD (now (history .entry)) (upper - 1 - k) nan) (getD (now (weights .entry)) (from + k) nan))) true 32 ⌝ }
+{
+    let steps = steps_below(scale, history, upper);
+    add_steps(&steps, weights, from)
+}
+
+// What 32 weights are to change by. All products first: `narrow_into` narrows several at once.
+fn steps_below(scale: f64, history: &[f32], upper: usize) -> [f32; 32]
+    requires { ⌜ 32 ≤ upper ⌝ }
+    requires { ⌜ upper ≤ length (now history) ⌝ }
+    ensures { λ r. ⌜ ((k : ℕ) → k < 32 → getD r k nan ≡ narrowOf (mul binary64 scale (getD (now (history .entry)) (upper - 1 - k) nan))) ⌝ }
+{
+    let mut products = [0.0f64; 32];
+    let mut k = 0usize;
+    while k < 32 {
+        let x = numbers::widen(history[upper - 1 - k]);
+        products[k] = scale * x;
+        k += 1;
+    }
+    let mut steps = [0.0f32; 32];
+    numbers::narrow_into(&products, &mut steps);
+    steps
+}
+
+fn add_steps(steps: &[f32; 32], weights: &mut [f32], from: usize) -> bool
+    requires { ⌜ from + 32 ≤ length (now weights) ⌝ }
+    ensures { λ _. ⌜ now (weights .exit) ≡ overAt from 32 (λ k w. add binary32 w (getD (now (steps .entry)) k nan)) (now (weights .entry)) ⌝ }
+    ensures { λ r. ⌜ r ≡ iter (λ k sound. sound && isFinite (add binary32 (getD (now (weights .entry)) (from + k) nan) (getD (now (steps .entry)) k nan))) true 32 ⌝ }
+{
+    let mut sound = true;
+    let mut k = 0usize;
+    while k < 32 {
+        let next = weights[from + k] + steps[k];
+        weights[from + k] = next;
+        sound = sound & numbers::is_finite32(next);
+        k += 1;
+    }
+    sound
+}
+
+// What a run leaves after its groups, one by one.
+fn update_rest(
+    scale: f64,
+    history: &[f32],
+    upper: usize,
+    weights: &mut [f32],
+    from: usize,
+    count: usize,
+) -> bool
+    requires { ⌜ from + count ≤ length (now weights) ⌝ }
+    requires { ⌜ count ≤ upper ⌝ }
+    requires { ⌜ upper ≤ length (now history) ⌝ }
+    ensures { λ _. ⌜ now (weights .exit) ≡ overAt from count (λ k w. nudgeOf scale (getD (now (history .entry)) (upper - 1 - k) nan) w) (now (weights .entry)) ⌝ }
+    ensures { λ r. ⌜ r ≡ iter (λ k sound. sound && isFinite (nudgeOf scale (getD (now (history .entry)) (upper - 1 - k) nan) (getD (now (weights .entry)) (from + k) nan))) true count ⌝ }
+{
+    let mut sound = true;
+    let mut k = 0usize;
     while k < count {
         let at = from + k;
-        let next = nudge(scale, history[top - k], weights[at]);
+        let next = nudge(scale, history[upper - 1 - k], weights[at]);
         weights[at] = next;
         sound = sound & numbers::is_finite32(next);
         k += 1;

@@ -1,13 +1,15 @@
-use mathlib.Core.Path.{_≡_, _∙_, ap}
+-- `rho::update_run` meets its contract: a group is 32 weights more of one `overAt`, and what is left goes to the end of the run. Assumes nothing.
+use mathlib.Core.Path.{_≡_, ap, _∙_}
 use mathlib.Core.Bool.{true, _&&_}
-use Prim.Native.Nat.{_+_, _-_, _≤_}
+use Prim.Native.Nat.{ℕ, _+_, _-_, _≤_}
 use native.Mathlib.Omega.{arith}
 use borrow.Author.Needs.{needs}
 use lib.Ieee.{nan}
-use lib.ListN.{length, getD, length-set}
-use Rattle.laws.specs.Loops.{iter, iter-none, iter-next, overAt, overAt-none, overAt-turn, overAt-ahead}
+use lib.ListN.{length, getD}
+use Rattle.laws.specs.Loops.{iter, iter-none, overAt, overAt-none}
 use Rattle.numbers.specs.Finite.{isFinite}
 use Rattle.rho.specs.Sample.{nudgeOf}
+use Rattle.rho.proofs.Groups.{next-weights, next-sound}
 use Rattle.rho.proofs.update.update_run.Statement.{statement}
 use Rattle.rho.proofs.update.update_run.Tie as tie
 
@@ -27,20 +29,23 @@ update-run-spec =
     (λ c. search needs)
     (λ c. search needs)
     (λ c. search needs)
-    (λ c. search needs)
-    (λ c. search needs)
     (λ c κs. search needs)
     (λ c. search needs)
     (λ c. search needs)
-    (λ c κs. search needs)
-    (λ c. search needs)
-    (λ c. search needs)
-    (λ c. let at = c .before .before .before .before .before .loop in let a = c .before .before .before .before .before .before .before .before .args in
-    let ahead = ap (λ l. getD l (a .from + at .k) nan) (at .inv .2) ∙ overAt-ahead nan (a .from) (at .k) (at .k) _ (a .weights .now) (omega arith) in (
+    (λ c. let at = c .before .before .before .before .before .loop in let a = c .before .before .before .before .before .before .before .before .args in let g = c .before .before .update-group in (
       omega arith,
-      simp length-set (at .inv .1),
-      overAt-turn _ _ _ _ (at .inv .2) (rw (c .before .nudge .ensures)),
-      iter-next _ _ _ (at .inv .3) (rw (c .is-finite32 .ensures, c .before .nudge .ensures, ahead)),
+      search needs,
+      next-weights (a .scale) (a .history .now) (a .weights .now) (a .top) (a .from) (at .k) 32 (at .inv .2) (g .ensures .0),
+      next-sound (a .scale) (a .history .now) (a .weights .now) (a .top) (a .from) (at .k) 32 (at .inv .2) (at .inv .3) (g .ensures .1),
     ))
     (λ c. search needs)
-    (λ c. let e : c .before .loop .k ≡ c .before .before .before .before .args .count = omega arith in (rw e at (c .before .loop .inv .2), rw e at (c .before .loop .inv .3))))
+    (λ c. search needs)
+    (λ c. search needs)
+    (λ c. search needs)
+    (λ c κs. search needs)
+    (λ c. search needs)
+    (λ c. let at = c .before .before .before .before .before .loop in let a = c .before .before .before .before .before .before .before .before .args in let g = c .before .before .update-rest in
+    let e : at .k + (a .count - at .k) ≡ a .count = omega arith in (
+      rw e at (next-weights (a .scale) (a .history .now) (a .weights .now) (a .top) (a .from) (at .k) (a .count - at .k) (at .inv .2) (g .ensures .0)),
+      rw e at (next-sound (a .scale) (a .history .now) (a .weights .now) (a .top) (a .from) (at .k) (a .count - at .k) (at .inv .2) (at .inv .3) (g .ensures .1)),
+    )))
