@@ -224,20 +224,20 @@ module _ (g : ℕ → ℕ) (m n : ℕ) (h : m ≤ n) where
       (max-le (top-le g m (top g n) (λ k l. top-ge g n k (omega arith))) (top-le (λ i. g (m + i)) (n - m) (top g n) (λ k l. top-ge g n (m + k) (omega arith))))
       (top-le g n (max (top g m) (top (λ i. g (m + i)) (n - m))) (λ k l. elim (lt-or-ge k m) [ inl a ↦ first-part k a | inr a ↦ second-part k l a ]))
 
--- in eight lanes, the place 8 b + q in the lane q
-pub top-lanes : (g : ℕ → ℕ) (n : ℕ) → top (λ q. top (λ b. g (8 * b + q)) n) 8 ≡ top g (8 * n)
+-- in sixteen lanes, the place 16 b + q in the lane q
+pub top-lanes : (g : ℕ → ℕ) (n : ℕ) → top (λ q. top (λ b. g (16 * b + q)) n) 16 ≡ top g (16 * n)
 top-lanes g n =
     le-antisymm
-    (top-le lane 8 (top g (8 * n)) (λ q l. top-le (λ b. g (8 * b + q)) n (top g (8 * n)) (λ b i. top-ge g (8 * n) (8 * b + q) (omega arith))))
-    (top-le g (8 * n) (top lane 8) bound)
+    (top-le lane 16 (top g (16 * n)) (λ q l. top-le (λ b. g (16 * b + q)) n (top g (16 * n)) (λ b i. top-ge g (16 * n) (16 * b + q) (omega arith))))
+    (top-le g (16 * n) (top lane 16) bound)
   where
     lane : ℕ → ℕ
-    lane q = top (λ b. g (8 * b + q)) n
+    lane q = top (λ b. g (16 * b + q)) n
 
-    bound : (k : ℕ) → k < 8 * n → g k ≤ top lane 8
+    bound : (k : ℕ) → k < 16 * n → g k ≤ top lane 16
     bound k l =
-        let e : 8 * (k / 8) + k % 8 ≡ k = omega arith in
-        le-trans (rw e at (top-ge (λ b. g (8 * b + k % 8)) n (k / 8) (omega arith))) (top-ge lane 8 (k % 8) (omega arith))
+        let e : 16 * (k / 16) + k % 16 ≡ k = omega arith in
+        le-trans (rw e at (top-ge (λ b. g (16 * b + k % 16)) n (k / 16) (omega arith))) (top-ge lane 16 (k % 16) (omega arith))
 
 -- ---- a loop that takes the maximum at each turn
 

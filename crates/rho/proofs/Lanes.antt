@@ -123,43 +123,43 @@ found-onward xs start h q =
     found-iter (λ k a. withSize a (getD xs (start + k) nan)) (λ k. rankAt xs (start + k)) (λ k n a r. found-step (getD xs (start + k) nan) (h (start + k)) r) q
     (length xs - start)
 
-length-lanes : (xs : List Float) (n : ℕ) → length (lanesOf xs n) ≡ 8
+length-lanes : (xs : List Float) (n : ℕ) → length (lanesOf xs n) ≡ 16
 unfolding lanesOf iter
 length-lanes xs zero = refl
-length-lanes xs (suc n) = length-over 8 (λ q a. withSize a (getD xs (8 * n + q) nan)) (lanesOf xs n) ∙ length-lanes xs n
+length-lanes xs (suc n) = length-over 16 (λ q a. withSize a (getD xs (16 * n + q) nan)) (lanesOf xs n) ∙ length-lanes xs n
 
 -- one lane is a running maximum by itself
-found-lane : (xs : List Float) (n q : ℕ) → Fits xs → q < 8 → Found binary32 (top (λ b. rankAt xs (8 * b + q)) n) (getD (lanesOf xs n) q nan)
+found-lane : (xs : List Float) (n q : ℕ) → Fits xs → q < 16 → Found binary32 (top (λ b. rankAt xs (16 * b + q)) n) (getD (lanesOf xs n) q nan)
 unfolding lanesOf iter top
-found-lane xs zero q h l = rw (getD-replicate 8 q plus nan l) found-plus
+found-lane xs zero q h l = rw (getD-replicate 16 q plus nan l) found-plus
 found-lane xs (suc n) q h l =
-    rw (over-at nan 8 q (λ i a. withSize a (getD xs (8 * n + i) nan)) (lanesOf xs n) l (rw length-lanes l))
-    (found-step (getD xs (8 * n + q) nan) (h (8 * n + q)) (found-lane xs n q h l))
+    rw (over-at nan 16 q (λ i a. withSize a (getD xs (16 * n + i) nan)) (lanesOf xs n) l (rw length-lanes l))
+    (found-step (getD xs (16 * n + q) nan) (h (16 * n + q)) (found-lane xs n q h l))
 
 -- so the lanes are a list of f32 too, and the rank of each is a top
 fits-lanes : (xs : List Float) (n : ℕ) → Fits xs → Fits (lanesOf xs n)
 fits-lanes xs n h i =
-    elim (lt-or-ge i 8) [
+    elim (lt-or-ge i 16) [
       | inl l ↦ number-fits binary32 (getD (lanesOf xs n) i nan) (found-lane xs n i h l .number)
       | inr l ↦ rw (List·getD-eq-default (lanesOf xs n) nan {n = i} (rw length-lanes l)) (nan-fits binary32)
     ]
 
-rank-lane : (xs : List Float) (n q : ℕ) → Fits xs → q < 8 → rankAt (lanesOf xs n) q ≡ top (λ b. rankAt xs (8 * b + q)) n
+rank-lane : (xs : List Float) (n q : ℕ) → Fits xs → q < 16 → rankAt (lanesOf xs n) q ≡ top (λ b. rankAt xs (16 * b + q)) n
 rank-lane xs n q h l =
     let i = found-lane xs n q h l in
     ap (rank binary32) (abs-number binary32 (getD (lanesOf xs n) q nan) (i .number)) ∙ i .is
 
--- the greatest of the eight
-found-joined : (xs : List Float) (n : ℕ) → Fits xs → Found binary32 (top (rankAt xs) (8 * n)) (onwardOf (lanesOf xs n) 0 plus)
+-- the greatest of the sixteen
+found-joined : (xs : List Float) (n : ℕ) → Fits xs → Found binary32 (top (rankAt xs) (16 * n)) (onwardOf (lanesOf xs n) 0 plus)
 found-joined xs n h =
     let r : ℕ → ℕ = λ k. rankAt (lanesOf xs n) (0 + k) in
     subst (λ (k : ℕ). Found binary32 k (onwardOf (lanesOf xs n) 0 plus))
     (zero-max _
     ∙ ap (λ (j : ℕ). top r (j - 0)) (length-lanes xs n)
-    ∙ top-same r (λ q. top (λ b. rankAt xs (8 * b + q)) n) 8 (λ q l. rw zero-add (rank-lane xs n q h l))
+    ∙ top-same r (λ q. top (λ b. rankAt xs (16 * b + q)) n) 16 (λ q l. rw zero-add (rank-lane xs n q h l))
     ∙ top-lanes (rankAt xs) n)
     (found-onward (lanesOf xs n) 0 (fits-lanes xs n h) found-plus)
 
-pub peak-lanes : (xs : List Float) (n : ℕ) → 8 * n ≤ length xs → ((i : ℕ) → T (fits binary32 (getD xs i nan)))
-    → onwardOf xs (8 * n) (onwardOf (lanesOf xs n) 0 plus) ≡ peakUp xs
-peak-lanes xs n l h = found-same (rw (top-parts (rankAt xs) (8 * n) (length xs) l) at (found-onward xs (8 * n) h (found-joined xs n h))) (found-up xs h)
+pub peak-lanes : (xs : List Float) (n : ℕ) → 16 * n ≤ length xs → ((i : ℕ) → T (fits binary32 (getD xs i nan)))
+    → onwardOf xs (16 * n) (onwardOf (lanesOf xs n) 0 plus) ≡ peakUp xs
+peak-lanes xs n l h = found-same (rw (top-parts (rankAt xs) (16 * n) (length xs) l) at (found-onward xs (16 * n) h (found-joined xs n h))) (found-up xs h)

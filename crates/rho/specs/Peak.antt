@@ -26,6 +26,6 @@ withSize p x = greaterOf p (greaterOf x (neg x))
 unfoldable pub onwardOf : List Float → ℕ → Float → Float
 onwardOf xs start p = iter (λ k a. withSize a (getD xs (start + k) nan)) p (length xs - start)
 
--- eight running maxima after n times eight samples: the sample at 8 b + q goes to the one at q
+-- sixteen running maxima after n times sixteen samples: the sample at 16 b + q goes to the one at q
 unfoldable pub lanesOf : List Float → ℕ → List Float
-lanesOf xs n = iter (λ b p. over 8 (λ q a. withSize a (getD xs (8 * b + q) nan)) p) (replicate 8 plus) n
+lanesOf xs n = iter (λ b p. over 16 (λ q a. withSize a (getD xs (16 * b + q) nan)) p) (replicate 16 plus) n

@@ -1,5 +1,5 @@
 // The peak magnitude of the far history. One running maximum is a chain in which each step waits for
-// the one before. Eight side by side do not wait for each other, and the greatest size is the same in
+// the one before. Sixteen side by side do not wait for each other, and the greatest size is the same in
 // any order.
 ghost use mathlib.Core.Path.{_≡_};
 ghost use Prim.Native.Nat.{_*_, _≤_, _<_};
@@ -19,22 +19,22 @@ pub fn peak_at(history: &[f32], pos: usize) -> f32
 pub fn peak(history: &[f32]) -> f32
     ensures { λ r. ⌜ r ≡ peakUp (now (history .entry)) ⌝ }
 {
-    let n = history.len() / 8;
+    let n = history.len() / 16;
     let p = lanes(history, n);
     let m = onward(&p, 0, 0.0f32);
-    onward(history, 8 * n, m)
+    onward(history, 16 * n, m)
 }
 
-// Eight running maxima over the first 8 n samples.
-fn lanes(xs: &[f32], n: usize) -> [f32; 8]
-    requires { ⌜ 8 * n ≤ length (now xs) ⌝ }
+// Sixteen running maxima over the first 16 n samples.
+fn lanes(xs: &[f32], n: usize) -> [f32; 16]
+    requires { ⌜ 16 * n ≤ length (now xs) ⌝ }
     ensures { λ r. ⌜ r ≡ lanesOf (now (xs .entry)) n ⌝ }
 {
-    let mut p = [0.0f32; 8];
+    let mut p = [0.0f32; 16];
     let mut b = 0usize;
     while b < n {
-        for q in 0..8usize {
-            p[q] = with_size(p[q], xs[8 * b + q]);
+        for q in 0..16usize {
+            p[q] = with_size(p[q], xs[16 * b + q]);
         }
         b += 1;
     }

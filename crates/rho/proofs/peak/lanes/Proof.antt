@@ -12,10 +12,10 @@ use Rattle.rho.proofs.peak.lanes.Statement.{statement}
 use Rattle.rho.proofs.peak.lanes.Tie as tie
 
 abbrev Inv-loop2 : tie.InvT-loop2
-Inv-loop2 xs n p₀ b q₀ p q = (q ≤ 8) × (p ≡ over q (λ i a. withSize a (getD xs (8 * b + i) nan)) p₀)
+Inv-loop2 xs n p₀ b q₀ p q = (q ≤ 16) × (p ≡ over q (λ i a. withSize a (getD xs (16 * b + i) nan)) p₀)
 
 abbrev μ-loop2 : tie.MeasureT-loop2
-μ-loop2 xs n p₀ b q₀ p q = 8 - q
+μ-loop2 xs n p₀ b q₀ p q = 16 - q
 
 abbrev Inv-loop : tie.InvT-loop
 Inv-loop xs n p₀ b₀ p b = (b ≤ n) × (p ≡ lanesOf xs b)

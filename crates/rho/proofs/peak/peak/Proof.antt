@@ -13,8 +13,8 @@ returns : tie.Need-returns
 unfolding ofBits
 returns c =
     let xs = c .before .before .before .before .before .args .history .now in
-    let l : 8 * (length xs / 8) ≤ length xs = omega arith in
-    cc (peak-lanes xs (length xs / 8) l (c .before .before .before .before .shared-slice-known .given))
+    let l : 16 * (length xs / 16) ≤ length xs = omega arith in
+    cc (peak-lanes xs (length xs / 16) l (c .before .before .before .before .shared-slice-known .given))
 
 pub peak-spec : {M : Type 1} → statement M
 peak-spec =
