@@ -1,4 +1,4 @@
--- The peak does not depend on the order: around the ring, straight over the list, and in eight lanes it is the same number, since
+-- The peak does not depend on the order: around the ring, straight over the list, and in sixteen lanes it is the same number, since
 -- each way finds the top of the ranks of the sizes (Greatest). Assumes nothing.
 --     peak-ring      newest first around the ring, as the definition has it, is straight over the list
 --     peak-lanes     the way that the code goes is straight over the list

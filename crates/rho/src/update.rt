@@ -90,6 +90,19 @@ fn steps_below(scale: f64, history: &[f32], upper: usize) -> [f32; 32]
     requires { ⌜ upper ≤ length (now history) ⌝ }
     ensures { λ r. ⌜ ((k : ℕ) → k < 32 → getD r k nan ≡ narrowOf (mul binary64 scale (getD (now (history .entry)) (upper - 1 - k) nan))) ⌝ }
 {
+    let products = products_below(scale, history, upper);
+    let mut steps = [0.0f32; 32];
+    numbers::narrow_into(&products, &mut steps);
+    steps
+}
+
+// By itself: no reference to the products is taken here, so the compiler knows that a store leaves the history alone, and takes
+// several at once.
+fn products_below(scale: f64, history: &[f32], upper: usize) -> [f64; 32]
+    requires { ⌜ 32 ≤ upper ⌝ }
+    requires { ⌜ upper ≤ length (now history) ⌝ }
+    ensures { λ r. ⌜ ((k : ℕ) → k < 32 → getD r k nan ≡ mul binary64 scale (getD (now (history .entry)) (upper - 1 - k) nan)) ⌝ }
+{
     let mut products = [0.0f64; 32];
     let mut k = 0usize;
     while k < 32 {
@@ -97,9 +110,7 @@ fn steps_below(scale: f64, history: &[f32], upper: usize) -> [f32; 32]
         products[k] = scale * x;
         k += 1;
     }
-    let mut steps = [0.0f32; 32];
-    numbers::narrow_into(&products, &mut steps);
-    steps
+    products
 }
 
 fn add_steps(steps: &[f32; 32], weights: &mut [f32], from: usize) -> bool
