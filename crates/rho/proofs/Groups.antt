@@ -1,7 +1,6 @@
 -- A run of the update goes in groups: m weights updated, and then k more, are m + k. Assumes nothing.
 --     overAt-split                the places from b on: m of them, then k more
 --     next-weights, next-sound    the weights after k more, and the verdict on them
---     step-sound                  a weight plus its step, where the step is the narrowed product
 use mathlib.Core.Path.{_≡_, refl, sym, ap, _∙_}
 use mathlib.Core.Bool.{Bool, true, _&&_}
 use mathlib.Core.List.{List, [], _∷_}
