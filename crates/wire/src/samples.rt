@@ -1,0 +1,42 @@
+// Writing.
+ghost use mathlib.Core.Path.{_≡_};
+ghost use Prim.Native.Nat.{_*_, _/_, _%_, _<_, _≤_, min};
+ghost use lib.ListN.{length};
+ghost use Rattle.laws.specs.Loops.{over};
+ghost use Rattle.wire.specs.Wire.{placeOf, byteOf, writtenAt};
+
+// The samples' bytes in a row, as many as there is room for.
+pub fn write_samples(samples: &[f32], bytes: &mut [u8])
+    ensures { λ _. ⌜ now (bytes .exit) ≡ over (4 * length (now (samples .entry))) (λ i b. writtenAt (now (samples .entry)) i) (now (bytes .entry)) ⌝ }
+{
+    let n = samples.len();
+    let room = bytes.len();
+    let mut i = 0usize;
+    while i < room && i / 4 < n {
+        let b = byte(numbers::to_bits32(samples[i / 4]), i % 4);
+        bytes[i] = b;
+        i += 1;
+    }
+}
+
+fn byte(p: u32, j: usize) -> u8
+    ensures { λ r. ⌜ r ≡ byteOf p j ⌝ }
+{
+    (p / place(j) % 256) as u8
+}
+
+fn place(j: usize) -> u32
+    ensures { λ r. ⌜ r ≡ placeOf j ⌝ }
+    ensures { λ r. ⌜ 0 < r ⌝ }
+{
+    if j == 0 {
+        return 1;
+    }
+    if j == 1 {
+        return 256;
+    }
+    if j == 2 {
+        return 65536;
+    }
+    16777216
+}
