@@ -1,0 +1,135 @@
+// The program's work: pairs from standard input, TauCanceller with four partitions and suppression, its samples to standard output.
+//
+// A read may end inside a pair: what is left of it, fewer than eight bytes, waits at the block's start for the next. At the input's
+// end an unfinished pair is dropped, and the flush comes last. A read or a write that fails is told of on standard error, and ends
+// the run; after a failed read what was read is still flushed.
+mod output;
+
+use libc::STDIN_FILENO;
+use output::complain;
+use output::emit;
+use tau_steps::state::TauCanceller;
+ghost use mathlib.Core.Path.{_≡_};
+ghost use Prim.Native.Nat.{_<_, _≤_};
+ghost use lib.ListN.{length};
+
+// What a turn leaves to the next: how many bytes wait in the block, whether to go on, and whether all that was to be written was.
+pub struct Turn {
+    pub left: usize,
+    pub goes_on: bool,
+    pub is_written: bool,
+    pub state: TauCanceller,
+}
+
+pub fn run() {
+    let mut shadow = [0.0f64; 2056];
+    let mut output = [0.0f64; 2056];
+    let mut spectra = [0.0f64; 2056];
+    let started = tau::create(4, true, &mut shadow, &mut output, &mut spectra);
+    let state = started.state;
+    drive(state, &mut shadow, &mut output, &mut spectra);
+}
+
+// A proved loop has to end, and nothing says that the input does. So it counts its turns down, from a number that no run uses up.
+fn drive(start: TauCanceller, shadow: &mut [f64], output: &mut [f64], spectra: &mut [f64]) {
+    let mut block = [0u8; 32768];
+    let mut state = start;
+    let mut left = 0usize;
+    let mut goes_on = true;
+    let mut is_written = true;
+    let mut turns = u64::MAX;
+    while turns > 0 && goes_on {
+        let turn = one_turn(left, state, &mut block, shadow, output, spectra);
+        left = turn.left;
+        goes_on = turn.goes_on;
+        is_written = turn.is_written;
+        let after = turn.state;
+        state = after;
+        turns -= 1;
+    }
+    if is_written {
+        finish(state, shadow, output, spectra);
+    }
+}
+
+// One read, and what it makes whole: at most 4,096 pairs, as the block holds.
+fn one_turn(
+    left: usize,
+    state: TauCanceller,
+    block: &mut [u8],
+    shadow: &mut [f64],
+    output: &mut [f64],
+    spectra: &mut [f64],
+) -> Turn
+    requires { ⌜ left < 8 ⌝ }
+    requires { ⌜ length (now block) ≡ 32768 ⌝ }
+    ensures { λ r. ⌜ r .left < 8 ⌝ }
+{
+    let got = libc::read(STDIN_FILENO, &mut block[left..]);
+    if got < 0 {
+        complain(b"aec: a read failed\n");
+        return ended(left, state);
+    }
+    if got == 0 {
+        return ended(left, state);
+    }
+    let held = left + io::count(got, &block[left..]);
+    worked(held, state, block, shadow, output, spectra)
+}
+
+// The pairs among the bytes held, and what they deliver.
+fn worked(
+    held: usize,
+    state: TauCanceller,
+    block: &mut [u8],
+    shadow: &mut [f64],
+    output: &mut [f64],
+    spectra: &mut [f64],
+) -> Turn
+    requires { ⌜ held ≤ 32768 ⌝ }
+    requires { ⌜ length (now block) ≡ 32768 ⌝ }
+    ensures { λ r. ⌜ r .left < 8 ⌝ }
+{
+    let mut near = [0.0f32; 4096];
+    let mut far = [0.0f32; 4096];
+    wire::read_near(&block[..held], &mut near);
+    wire::read_far(&block[..held], &mut far);
+    wire::keep_rest(held, block);
+    let pairs = held / 8;
+    let mut out = [0.0f32; 4096];
+    let answer = tau::process(
+        state,
+        shadow,
+        output,
+        spectra,
+        &near[..pairs],
+        &far[..pairs],
+        &mut out,
+    );
+    let is_written = emit(&out, answer.delivered);
+    let after = answer.state;
+    Turn {
+        left: held % 8,
+        goes_on: is_written,
+        is_written,
+        state: after,
+    }
+}
+
+// No turn more.
+fn ended(left: usize, state: TauCanceller) -> Turn
+    ensures { λ r. ⌜ r .left ≡ left ⌝ }
+{
+    Turn {
+        left,
+        goes_on: false,
+        is_written: true,
+        state,
+    }
+}
+
+fn finish(state: TauCanceller, shadow: &mut [f64], output: &mut [f64], spectra: &mut [f64]) {
+    let mut out = [0.0f32; 256];
+    let answer = tau::flush(state, shadow, output, spectra, &mut out);
+    emit(&out, answer.delivered);
+}
