@@ -5,7 +5,7 @@ use mathlib.Core.List.{List}
 use Prim.Native.Nat.{ℕ, _+_, _*_, _/_, _^_, _≤_, _<_}
 use native.Mathlib.Omega.{arith}
 use lib.Dec.{ltb}
-use lib.ListN.{length, getD, set, length-set}
+use lib.ListN.{getD, set, length-set}
 use lib.Ieee.{Float, nan, binary64, ofBits}
 use Rattle.complex.specs.declared.Complex.{Complex}
 use Rattle.complex.specs.Complexes.{getC, putC, addC, subC, mulC, scaleC}
@@ -13,19 +13,13 @@ use Rattle.fft.specs.ComplexFft.{swapAt, swapStep, permuted, butterflyAt
 use Rattle.laws.specs.Choice.{pick-if}
 use Rattle.fft.proofs.Spans.{place, room, halves}
 use Rattle.numbers.specs.Zeros.{Finite}
-use Rattle.laws.specs.Kinds.{All}
 use Rattle.numbers.proofs.Zeros.{finite-neg}
-use Rattle.laws.specs.Kinds.{all-get, all-set, iter-keeps}
+use Rattle.laws.specs.Kinds.{Kept, all-get, all-set, iter-keeps}
 
 -- both parts of a kind
 pub record Parts (P : Float → Type 0) (z : Complex) : Type 0 where
   pub real : P (z .re)
   pub imag : P (z .im)
-
--- n numbers, all of a kind
-pub record Kept (P : Float → Type 0) (n : ℕ) (l : List Float) : Type 0 where
-  pub long : length l ≡ n
-  pub all : All P l
 
 pub get-parts : {P : Float → Type 0} {n : ℕ} {l : List Float} (i : ℕ) → Kept P n l → 2 * i + 1 < n → Parts P (getC l i)
 get-parts i h k = record { real = all-get (2 * i) nan (h .all) (omega (arith, h .long, k)); imag = all-get (2 * i + 1) nan (h .all) (omega (arith, h .long, k)) }

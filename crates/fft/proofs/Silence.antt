@@ -21,8 +21,8 @@ use Rattle.numbers.specs.Finite.{plus, isFinite}
 use Rattle.numbers.specs.Narrowing.{narrowOf}
 use Rattle.numbers.specs.Zeros.{Zero, Faint, Plus, Finite}
 use Rattle.numbers.proofs.Zeros.{zeros, faints, pluses, faint-narrow, plus-narrow, plus-mul, zero-mul-left, finite-neg}
-use Rattle.laws.specs.Kinds.{all-table2, all-map, all-weaken, all-same}
-use Rattle.fft.proofs.Keeps.{Parts, Kept, Steady, Places, get-parts, run-keeps}
+use Rattle.laws.specs.Kinds.{Kept, all-table2, all-map, all-weaken, all-same}
+use Rattle.fft.proofs.Keeps.{Parts, Steady, Places, get-parts, run-keeps}
 
 -- ---- a list written pair by pair
 pairs-keep : {P : Float → Type 0} (f : ℕ → Complex) (n : ℕ) → ((i : ℕ) → i < n → Parts P (f i)) → Kept P (2 * n) (table2 n (λ k. f k .re) (λ k. f k .im))

@@ -3,9 +3,14 @@
 --     pick b x y          x where the test b holds, else y
 --     pick-yes, pick-no   which arm it is, by the test: `pick-yes _ _ _ (cc) (cc)`; pick-not-yes, pick-not-no of a test `!b`
 --     pick-if             what both arms have, the pick has, and the test is known in each
+--     both                two tests that hold together hold each
+--     lt-or-ge            of two numbers the first is less, or the second is no more
 --     choices             what a tree of early returns wants: `search (needs, choices)`
 use mathlib.Core.Path.{_≡_, refl, sym, ap, _∙_}
-use mathlib.Core.Bool.{Bool, true, false, not}
+use mathlib.Core.Bool.{Bool, true, false, not, _&&_, true≢false}
+use mathlib.Core.Logic.{_⊎_, inl, inr}
+use Prim.Native.Nat.{ℕ, _≤_, _<_}
+use lib.Dec.{T, ltb, ltb→lt, nltb→le}
 use borrow.Author.Tests.{lt-ltb, le-ltb, le-leb, lt-leb, eq-eqb, ne-eqb}
 
 not-not : (b : Bool) → not (not b) ≡ b
@@ -36,6 +41,17 @@ pub pick-if : {A : Type 0} (Q : A → Type 0) (b : Bool) {x y : A} → (b ≡ tr
 unfolding pick
 pick-if Q true h k = h refl
 pick-if Q false h k = k refl
+
+pub both : (a b : Bool) → (a && b) ≡ true → (a ≡ true) × (b ≡ true)
+both true b h = (refl, h)
+both false b h = absurd (true≢false (sym h))
+
+pub lt-or-ge : (a b : ℕ) → (a < b) ⊎ (b ≤ a)
+lt-or-ge a b = go (ltb a b) (ltb→lt a b) (nltb→le a b)
+  where
+    go : (t : Bool) → (T t → a < b) → (T (not t) → b ≤ a) → (a < b) ⊎ (b ≤ a)
+    go true p q = inl (p tt)
+    go false p q = inr (q tt)
 
 pub ruleset choices = (
   pick-yes,

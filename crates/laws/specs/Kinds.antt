@@ -18,6 +18,11 @@ Each P (x ∷ l) = P x × Each P l
 pub record All {A : Type 0} (P : A → Type 0) (l : List A) : Type 0 where
   pub each : Each P l
 
+-- n of them
+pub record Kept {A : Type 0} (P : A → Type 0) (n : ℕ) (l : List A) : Type 0 where
+  pub long : length l ≡ n
+  pub all : All P l
+
 module _ {A : Type 0} (P : A → Type 0) where
   get : (l : List A) (i : ℕ) (d : A) → Each P l → i < length l → P (getD l i d)
   get [] i d h k = absurd (not-suc-le-zero k)

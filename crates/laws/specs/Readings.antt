@@ -1,23 +1,26 @@
 -- What a loop of Loops says in the words of lists: for theorems about a definition, and for a contract that is to be read without loops.
 --     iter-fold                            a sum over indices is a fold over the list
 --     iter-cong, over-cong, overAt-cong    two bodies that agree at each index below n give the same
---     iter-split, over-split               m turns, and then k more
+--     iter-split, over-split, overAt-split            m turns, and then k more
+--     over-clip, over-both, over-least     a loop that ends where the list does: turns past its end change nothing
 --     over-over                            two passes are one
 --     over-fill, over-copy, over-map, over-mapped     all of a list: a constant, another list, f of each, f of each of another
 --     over-table, over2-table              all of a list, by place; what it held before is not mentioned
---     over-front, over-filled, over-copied            the first n places, and the rest as it was
+--     over-front, over-filled, over-copied, over-placed     the first n places, and the rest as it was
 --     overAt-back, overAt-copied, overAt-padded       from place b on, and what lies before as it was
 --     slide                                a window's second half moved to the front and a block put behind it
 --     over-dropped                         all of a list: what lies from a place on in another
 -- Assumes nothing.
 use mathlib.Core.Path.{_≡_, refl, sym, ap, _∙_}
 use mathlib.Core.List.{List, [], _∷_, _++_, foldl, map}
-use Prim.Native.Nat.{ℕ, zero, suc, _+_, _-_, _*_, _≤_, _<_}
-use native.Mathlib.Nat.{not-suc-le-zero, le-of-suc-le-suc, le-refl, add-sub-cancel, add-sub-cancel-left, suc-inj, add-zero, zero-add, add-suc, suc-add}
+use mathlib.Core.Logic.{_⊎_, inl, inr}
+use Prim.Native.Nat.{ℕ, zero, suc, _+_, _-_, _*_, _≤_, _<_, min}
+use native.Mathlib.Nat.{not-suc-le-zero, le-of-suc-le-suc, le-refl, add-sub-cancel, add-sub-cancel-left, suc-inj, add-zero, zero-add, add-suc, suc-add, le-of-lt, min-eq-left, min-eq-right}
 use native.Mathlib.Omega.{arith}
 use lib.ListN.{length, getD, take, drop, replicate, length-drop}
-use lib.Seq.{getD-drop, drop-drop}
-use Rattle.laws.specs.Loops.{iter, over, overAt, over2}
+use lib.Seq.{getD-drop, drop-drop, length-take-le}
+use Rattle.laws.specs.Choice.{lt-or-ge}
+use Rattle.laws.specs.Loops.{iter, over, overAt, over2, over-end, over-whole, length-over}
 use Rattle.laws.specs.Tables.{table, table2}
 
 -- one turn taken off the front
@@ -66,6 +69,12 @@ module _ {A : Type 0} where
       ∙ ap (λ (l : List A). f 0 x ∷ l)
       (over-split (λ j. f (suc j)) d m k
       ∙ overAt-cong m k (λ j. f (suc (m + j))) (λ j. f (suc m + j)) (over m (λ j. f (suc j)) d) (λ j y l. ap (λ (n : ℕ). f n y) (sym (suc-add m j))))
+
+  pub overAt-split : (b : ℕ) (f : ℕ → A → A) (d : List A) (m k : ℕ) → overAt b (m + k) f d ≡ overAt (b + m) k (λ j. f (m + j)) (overAt b m f d)
+  unfolding overAt
+  overAt-split zero f d m k = rw zero-add (over-split f d m k)
+  overAt-split (suc b) f [] m k = rw suc-add refl
+  overAt-split (suc b) f (x ∷ d) m k = rw suc-add (ap (λ (l : List A). x ∷ l) (overAt-split b f d m k))
 
   pub over-over : (f g : ℕ → A → A) (d : List A) (n : ℕ) → over n g (over n f d) ≡ over n (λ k x. g k (f k x)) d
   unfolding over
@@ -139,6 +148,10 @@ module _ {A : Type 0} where
   over-table (suc n) f [] e = absurd (omega arith)
   over-table (suc n) f (x ∷ d) e = ap (λ (l : List A). f 0 ∷ l) (over-table n (λ k. f (suc k)) d (suc-inj e))
 
+  -- the first n places overwritten, by place
+  pub over-placed : (n : ℕ) (f : ℕ → A) (d : List A) → n ≤ length d → over n (λ k x. f k) d ≡ table n f ++ drop n d
+  over-placed n f d h = over-front n (λ k x. f k) d ∙ ap (λ (l : List A). l ++ drop n d) (over-table n f (take n d) (length-take-le n d h))
+
   pub over2-table : (z : A) (n : ℕ) (f g : ℕ → A) (d : List A) → length d ≡ 2 * n → over2 z n (λ k x y. f k) (λ k x y. g k) d ≡ table2 n f g
   unfolding over2 table2
   over2-table z zero f g [] e = refl
@@ -187,3 +200,23 @@ over-mapped z f [] [] e = refl
 over-mapped z f [] (x ∷ d) e = absurd (omega arith)
 over-mapped z f (y ∷ s) [] e = absurd (omega arith)
 over-mapped {A} z f (y ∷ s) (x ∷ d) e = ap (λ (l : List A). f y ∷ l) (over-mapped z f s d (omega arith))
+
+-- ---- a loop over a list ends where the list does: turns past its end change nothing
+module _ {A : Type 0} (f : ℕ → A → A) (d : List A) where
+  pub over-room : (n : ℕ) → length d ≤ n → over n f d ≡ over (length d) f d
+  over-room n h = over-whole f d n refl (rw length-over h)
+
+  -- m turns and n, both past the end
+  pub over-both : (m n : ℕ) {x : List A} → x ≡ over m f d → length d ≤ m → m ≤ n → x ≡ over n f d
+  over-both m n e h l = e ∙ over-room m h ∙ sym (over-room n (omega arith))
+
+  pub over-least : (n : ℕ) → over (min n (length d)) f d ≡ over n f d
+  over-least n = go (lt-or-ge (length d) n)
+    where
+      go : (length d < n) ⊎ (n ≤ length d) → over (min n (length d)) f d ≡ over n f d
+      go (inl h) = ap (λ (k : ℕ). over k f d) (min-eq-right (le-of-lt h)) ∙ sym (over-room n (le-of-lt h))
+      go (inr h) = ap (λ (k : ℕ). over k f d) (min-eq-left h)
+
+  -- a loop to the lesser of n and the list's length
+  pub over-clip : (n m k : ℕ) {x : List A} → x ≡ over k f d → k ≤ m → m ≤ k → m ≡ min n (length d) → x ≡ over n f d
+  over-clip n m k e l g q = over-end f d k m e l g ∙ ap (λ (j : ℕ). over j f d) q ∙ over-least n

@@ -2,12 +2,13 @@
 -- each entry. Assumes nothing.
 --     table n f            f 0, f 1, .. up to n entries; table2 n f g the same by pairs, f 0, g 0, f 1, g 1, ..
 --     table-at, table2-at  what a table holds at k
+--     table-split          m entries, and then n more
 --     is-table, is-table2  a list that passes the test entry by entry IS the table of f, or of f and g
 --     entry-at             a rule of place and entry, at each entry of a list that passes it
 --     at-below             a rule of the numbers below n
 use mathlib.Core.Path.{_≡_, refl, sym, _∙_, ap, subst}
 use mathlib.Core.Bool.{Bool, true, false, _&&_}
-use mathlib.Core.List.{List, [], _∷_}
+use mathlib.Core.List.{List, [], _∷_, _++_}
 use Prim.Native.Nat.{ℕ, zero, suc, _+_, _*_, _<_}
 use native.Mathlib.Nat.{add-zero, zero-add, add-suc, suc-add, le-of-suc-le-suc, not-suc-le-zero}
 use native.Mathlib.Omega.{arith}
@@ -71,6 +72,15 @@ module _ {A : Type 0} where
   table-cong (suc n) f g h =
       ap (λ (x : A). x ∷ table n (λ k. f (suc k))) (h 0 (omega arith))
       ∙ ap (λ (l : List A). g 0 ∷ l) (table-cong n (λ k. f (suc k)) (λ k. g (suc k)) (λ k l. h (suc k) (omega arith)))
+
+  pub table-split : (m n : ℕ) (f : ℕ → A) → table (m + n) f ≡ table m f ++ table n (λ k. f (m + k))
+  unfolding table
+  table-split zero n f = ap (λ (k : ℕ). table k f) (zero-add n) ∙ table-cong n f (λ k. f (0 + k)) (λ k l. ap f (sym (zero-add k)))
+  table-split (suc m) n f =
+      ap (λ (k : ℕ). table k f) (suc-add m n)
+      ∙ ap (λ (l : List A). f 0 ∷ l)
+      (table-split m n (λ k. f (suc k))
+      ∙ ap (λ (l : List A). table m (λ k. f (suc k)) ++ l) (table-cong n (λ k. f (suc (m + k))) (λ k. f (suc m + k)) (λ k l. ap f (sym (suc-add m k)))))
 
   pub table2-cong : (n : ℕ) (f f' g g' : ℕ → A) → ((k : ℕ) → k < n → f k ≡ f' k) → ((k : ℕ) → k < n → g k ≡ g' k) → table2 n f g ≡ table2 n f' g'
   unfolding table2

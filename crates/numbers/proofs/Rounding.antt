@@ -16,7 +16,7 @@ use lib.Ieee.Bits.{ofBits-toBits, toBits-lt}
 use lib.Ieee.Exact.{HasValue, odd-sign, units-val}
 use lib.Ieee.Nearest.{closest, closest-same, div-same, nearest-ge}
 use lib.Ieee.Scale.{round-same}
-use Rattle.laws.specs.Choice.{pick}
+use Rattle.laws.specs.Choice.{pick, lt-or-ge}
 use Rattle.numbers.specs.Narrowing.{narrowOf, magOf}
 
 -- ---- `compare` and `closest`
@@ -315,13 +315,6 @@ lead t = omega arith
 
 under : (t : ℕ) → t < 2 ^ 52 → t < 2 ^ 53
 under t h = omega arith
-
-pub lt-or-ge : (a b : ℕ) → (a < b) ⊎ (b ≤ a)
-lt-or-ge a b = go (ltb a b) (ltb→lt a b) (nltb→le a b)
-  where
-    go : (t : Bool) → (T t → a < b) → (T (not t) → b ≤ a) → (a < b) ⊎ (b ≤ a)
-    go true p q = inl (p tt)
-    go false p q = inr (q tt)
 
 module _ (s : Bool) (e t : ℕ) (l : t < 2 ^ 52) where
   -- below the field 2047: a number with its leading digit

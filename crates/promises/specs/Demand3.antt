@@ -10,6 +10,7 @@ use lib.Ieee.{Float}
 use lib.ListN.{length, take, drop}
 use Rattle.laws.specs.Kinds.{All}
 use Rattle.numbers.specs.Finite.{finiteOrZero}
+use Rattle.numbers.specs.Zeros.{Fits, Still}
 use Rattle.rho.specs.Sample as sample
 use Rattle.rho.specs.Pairs as rhoPairs
 use Rattle.rho.specs.Calls as rho
@@ -18,8 +19,7 @@ use Rattle.tau.specs.Pairs.{Engine, blockOf, pairsOf, flushedOf}
 use Rattle.tau.specs.Calls as tau
 use Rattle.tau.specs.Stream.{Part, Level, Roomy, nearOf, farOf, rowOf, AllAccepted, ranBy, begunBy, Call, Since, anew, afterCalls, byBlocks, restOf}
 use Rattle.tau.specs.Stream.Call.{feed, flush}
-use Rattle.tau_block.specs.Silence.{Fits}
-use Rattle.tau.specs.Silence.{Still, Begins, callsOf, AllTaken, givenOf, Gentle, filledBy}
+use Rattle.tau.specs.Silence.{Begins, callsOf, AllTaken, givenOf, Gentle, filledBy}
 
 -- ---- TauCanceller
 
@@ -88,7 +88,7 @@ abbrev pub RhoSilence : Type 0
 RhoSilence = (rate tail : ℕ) (weights history : List Float) (ps : List rhoStream.Part) (a b c d : List Float)
     → rho.createOf rate tail weights history .answer .refusal ≡ 0
     → rhoStream.AllAccepted (rhoStream.begunBy (rho.createOf rate tail weights history)) ps
-    → rhoStream.nearOf ps ≡ a ++ b → rhoStream.farOf ps ≡ c ++ d → length a ≡ length c → All rhoStream.Fits a → All rhoStream.Still c
+    → rhoStream.nearOf ps ≡ a ++ b → rhoStream.farOf ps ≡ c ++ d → length a ≡ length c → All Fits a → All Still c
     → take (length a) (rhoStream.rowOf (rhoStream.begunBy (rho.createOf rate tail weights history)) ps .samples) ≡ map finiteOrZero a
 
 -- "ends any freeze after its hangover count of quiet pairs in a row"

@@ -1,20 +1,16 @@
 -- What a call may count on once it is not refused. Assumes nothing.
 --     accepted-state, accepted-pairs     refusal 0 says that the state is in range, the buffers fit, and the pairs have room
 --     accepted-settings                  the same of creation
-use mathlib.Core.Path.{_≡_, refl, sym}
-use mathlib.Core.Bool.{Bool, true, false, _&&_, true≢false}
+use mathlib.Core.Path.{_≡_}
+use mathlib.Core.Bool.{true, false, _&&_}
 use Prim.Native.Nat.{ℕ, _*_, _/_, _≤_, _<_}
 use native.Mathlib.Omega.{arith}
 use borrow.Author.Tests.{leb-true, ltb-true, ltb-false, eqb-true, eqb-false}
 use lib.Dec.{eqb, ltb, leb}
-use Rattle.laws.specs.Choice.{pick-if}
+use Rattle.laws.specs.Choice.{pick-if, both}
 use Rattle.rho.specs.declared.state.RhoCanceller.{RhoCanceller}
 use Rattle.rho.specs.State.{tapsOf}
 use Rattle.rho.specs.Calls.{settingsOf, sizedOf, rangedOf, createRefusal, stateRefusal, pairsRefusal, processRefusal}
-
-pub both : (a b : Bool) → (a && b) ≡ true → (a ≡ true) × (b ≡ true)
-both true b h = (refl, h)
-both false b h = absurd (true≢false (sym h))
 
 pub record Sized (taps w h : ℕ) : Type 0 where
   pub weights : w ≡ taps

@@ -18,7 +18,7 @@ use borrow.Author.Tests.{leb-true, le-leb, lt-ltb, eq-eqb}
 use lib.Dec.{leb}
 use lib.Ieee.{Float}
 use lib.ListN.{length, take, length-append, length-set, length-replicate}
-use Rattle.laws.specs.Choice.{pick-yes, pick-if}
+use Rattle.laws.specs.Choice.{pick-yes, pick-if, both}
 use Rattle.laws.specs.Loops.{length-over}
 use Rattle.laws.specs.Kinds.{All, all-none, all-cons}
 use Rattle.numbers.specs.Finite.{plus}
@@ -29,7 +29,7 @@ use Rattle.rho.specs.Pairs.{Run, pairsOf}
 use Rattle.rho.specs.Calls.{settingsOf, sizedOf, rangedOf, createRefusal, stateRefusal, pairsRefusal, processRefusal, Called, begunOf, createOf, resetOf, processOf}
 use Rattle.rho.specs.Stream.{begunBy, leftBy, deliveredBy, processNumber, Part, Level, Room, nearOf, farOf, thenOf, partsOf, rowOf, AllAccepted, takenBy}
 use Rattle.rho.proofs.Going.{next-small}
-use Rattle.rho.proofs.Accepted.{Ranged, State, accepted-state, Pairs, accepted-pairs, taps-some, both}
+use Rattle.rho.proofs.Accepted.{Ranged, State, accepted-state, Pairs, accepted-pairs, taps-some}
 use Rattle.rho.proofs.Counts.{delivers, create-answers, create-began, reset-answers, reset-began, process-answers, process-ran, process-delivers}
 
 -- ---- over the pairs

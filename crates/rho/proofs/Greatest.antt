@@ -20,10 +20,9 @@ use lib.Pow.{pow-add, pow-pos, pow-lt}
 use borrow.Author.Tests.{ltb-true, ltb-false, lt-ltb, le-ltb}
 use lib.Ieee.{Float, nan, inf, fin, Format, prec, emax, low, up, down, lt, fits, isNan}
 use lib.Ieee.Fits.{and-l, and-r, down-pos, inf-fits}
-use Rattle.laws.specs.Choice.{pick}
+use Rattle.laws.specs.Choice.{pick, lt-or-ge}
 use Rattle.laws.specs.Loops.{iter}
 use Rattle.numbers.specs.Order.{absOf, maxOf}
-use Rattle.numbers.proofs.Rounding.{lt-or-ge}
 use Rattle.numbers.proofs.Values.{unique}
 
 -- ---- sizes and their ranks

@@ -1,25 +1,17 @@
 -- A run of the update goes in groups: m weights updated, and then k more, are m + k. Assumes nothing.
---     overAt-split                the places from b on: m of them, then k more
 --     next-weights, next-sound    the weights after k more, and the verdict on them
-use mathlib.Core.Path.{_≡_, refl, sym, ap, _∙_}
+use mathlib.Core.Path.{_≡_, sym, ap, _∙_}
 use mathlib.Core.Bool.{Bool, true, _&&_}
-use mathlib.Core.List.{List, [], _∷_}
-use Prim.Native.Nat.{ℕ, zero, suc, _+_, _-_, _≤_, _<_}
-use native.Mathlib.Nat.{zero-add, suc-add}
+use mathlib.Core.List.{List}
+use Prim.Native.Nat.{ℕ, _+_, _-_}
 use native.Mathlib.Omega.{arith}
 use lib.Ieee.{Float, nan}
-use lib.ListN.{length, getD}
-use Rattle.laws.specs.Loops.{iter, over, overAt, overAt-ahead}
-use Rattle.laws.specs.Readings.{iter-cong, iter-split, over-split, overAt-cong}
+use lib.ListN.{getD}
+use Rattle.laws.specs.Loops.{iter, overAt, overAt-ahead}
+use Rattle.laws.specs.Readings.{iter-cong, iter-split, overAt-split, overAt-cong}
 use Rattle.numbers.specs.Finite.{isFinite}
 use Rattle.rho.specs.Sample.{nudgeOf}
 use Rattle.rho.proofs.Runs.{verdict-from}
-
-overAt-split : {A : Type 0} (b : ℕ) (f : ℕ → A → A) (d : List A) (m k : ℕ) → overAt b (m + k) f d ≡ overAt (b + m) k (λ j. f (m + j)) (overAt b m f d)
-unfolding overAt
-overAt-split zero f d m k = rw zero-add (over-split f d m k)
-overAt-split (suc b) f [] m k = rw suc-add refl
-overAt-split {A} (suc b) f (x ∷ d) m k = rw suc-add (ap (λ (l : List A). x ∷ l) (overAt-split b f d m k))
 
 -- place m + j below top, from place m on
 below : (top m j : ℕ) → top + 1 - m - 1 - j ≡ top - (m + j)

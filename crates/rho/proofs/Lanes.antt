@@ -15,11 +15,10 @@ use lib.Ieee.{Float, nan, inf, fin, binary32, up, down, fits, neg, lt}
 use lib.Ieee.Fits.{nan-fits, up-pos, down-pos}
 use lib.ListN.{length, getD, getD-replicate, List·getD-eq-default}
 use borrow.Author.Tests.{lt-ltb, le-ltb, le-leb, lt-leb}
-use Rattle.laws.specs.Choice.{pick, pick-yes, pick-no}
+use Rattle.laws.specs.Choice.{pick, pick-yes, pick-no, lt-or-ge}
 use Rattle.laws.specs.Loops.{iter, length-over, over-at}
 use Rattle.numbers.specs.Finite.{plus}
 use Rattle.numbers.specs.Order.{absOf, maxOf}
-use Rattle.numbers.proofs.Rounding.{lt-or-ge}
 use Rattle.rho.specs.Peak.{peakUp, greaterOf, withSize, onwardOf, lanesOf}
 use Rattle.rho.specs.Ring.{slotOf, peakOf}
 use Rattle.rho.proofs.Greatest.{Number, infinite, finite, Found, rank, top, number-fits, size-abs, abs-number, found-same, found-pick, found-max, found-iter, top-same, top-turned, top-parts, top-lanes}

@@ -19,12 +19,12 @@ use lib.Ieee.{Float, nan, inf, binary32, binary64, add, sub, mul, eq, ofBits}
 use lib.Ieee.Fits.{fits-widens}
 use lib.ListN.{length, getD, take, replicate, length-set, length-replicate, length-map}
 use lib.Seq.{take-at}
-use Rattle.laws.specs.Choice.{pick, pick-if}
+use Rattle.laws.specs.Choice.{pick, pick-if, both}
 use Rattle.laws.specs.Loops.{iter, length-over}
-use Rattle.laws.specs.Kinds.{All, all-get, all-set, all-replicate, all-over-to, all-places, iter-keeps}
+use Rattle.laws.specs.Kinds.{All, Kept, all-get, all-set, all-replicate, all-over-to, all-places, iter-keeps}
 use Rattle.numbers.specs.Finite.{plus, isFinite, finiteOrZero}
 use Rattle.numbers.specs.Narrowing.{narrowOf}
-use Rattle.numbers.specs.Zeros.{Zero, Plus, Blank}
+use Rattle.numbers.specs.Zeros.{Zero, Plus, Blank, Fits, Still}
 use Rattle.numbers.proofs.Zeros.{pluses, plus-zero, zero-finite, zero-faint, zero-of-eq, plus-blank, plus-faint, faint-mul-right, faint-narrow, finite-true}
 use Rattle.numbers.proofs.Clean.{clean-finite, clean-same, clean-fits}
 use Rattle.numbers.proofs.Values.{sub-zero}
@@ -34,11 +34,10 @@ use Rattle.rho.specs.Ring.{slotOf, lagOf, estimateOf}
 use Rattle.rho.specs.Sample.{Engine, Adapted, nudgeOf, updatedOf, soundOf, clearedOf, adaptedOf, afterOf, stepOf}
 use Rattle.rho.specs.Pairs.{pairsOf}
 use Rattle.rho.specs.Calls.{begunOf, createOf, resetOf}
-use Rattle.rho.specs.Stream.{begunBy, Part, nearOf, farOf, rowOf, AllAccepted, Fits, Still, Kept, Quiet, takenBy, placeOf, heardOf, errorAt}
+use Rattle.rho.specs.Stream.{begunBy, Part, nearOf, farOf, rowOf, AllAccepted, Quiet, takenBy, placeOf, heardOf, errorAt}
 use Rattle.rho.proofs.Going.{next-small}
 use Rattle.rho.proofs.Accepted.{accepted-state, taps-some}
 use Rattle.rho.proofs.Counts.{create-began, reset-answers, reset-began}
-use Rattle.rho.proofs.Accepted.{both}
 use Rattle.rho.proofs.Cut.{cut, row-runs, row-level}
 
 -- ---- what is no sound, and what passes

@@ -1,15 +1,14 @@
 -- What the theorems on streams speak of: a stream cut into calls, far silence, and quiet pairs in a row. Definitions only, and no
 -- contract cites them.
 use mathlib.Core.Path.{_≡_}
-use mathlib.Core.Bool.{Bool, true, false}
+use mathlib.Core.Bool.{Bool, false}
 use mathlib.Core.List.{List, [], _∷_, _++_}
 use Prim.Native.Nat.{ℕ, _≤_, _<_}
-use lib.Dec.{T}
-use lib.Ieee.{Float, binary32, binary64, sub, eq, fits}
+use lib.Ieee.{Float, binary64, sub}
 use lib.ListN.{length, set, take}
 use Rattle.laws.specs.Choice.{pick}
-use Rattle.laws.specs.Kinds.{All}
-use Rattle.numbers.specs.Finite.{plus, isFinite, finiteOrZero}
+use Rattle.laws.specs.Kinds.{All, Kept}
+use Rattle.numbers.specs.Finite.{isFinite, finiteOrZero}
 use Rattle.numbers.specs.Narrowing.{narrowOf}
 use Rattle.numbers.specs.Zeros.{Zero, Plus}
 use Rattle.rho.specs.Ring.{nextOf, estimateOf, energyOf, peakOf}
@@ -96,19 +95,6 @@ abbrev pub AllAccepted : Engine → List Part → Type 0
 AllAccepted e ps = All (λ r. r ≡ 0) (rowOf e ps .refusals)
 
 -- ---- far silence
-
--- an f32
-pub record Fits (x : Float) : Type 0 where
-  pub fit : T (fits binary32 x)
-
--- no sound: what the sample is read as equals 0.0. So 0.0, -0.0, NaN and the infinities are still.
-pub record Still (y : Float) : Type 0 where
-  pub still : eq (finiteOrZero y) plus ≡ true
-
--- n numbers, all of a kind
-pub record Kept (P : Float → Type 0) (n : ℕ) (l : List Float) : Type 0 where
-  pub long : length l ≡ n
-  pub all : All P l
 
 -- an engine that has heard no far sound: every weight is +0.0, and every far sample kept is a zero, of either sign
 pub record Quiet (e : Engine) : Type 0 where

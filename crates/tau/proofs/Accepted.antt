@@ -7,7 +7,7 @@
 --     process-ran, flush-ran     what an accepted process and flush leaves
 --     create-refused, reset-refused, process-refused, flush-refused     what a refused one leaves: all as it was given, and nothing delivered
 use mathlib.Core.Path.{_≡_, refl, sym}
-use mathlib.Core.Bool.{Bool, true, false, _&&_, true≢false}
+use mathlib.Core.Bool.{Bool, true, false, _&&_}
 use mathlib.Core.List.{List}
 use Prim.Native.Nat.{ℕ, _*_, _≤_}
 use native.Mathlib.Omega.{arith}
@@ -15,7 +15,7 @@ use borrow.Author.Tests.{leb-true, le-leb, eqb-true, eqb-false, eq-eqb, ne-eqb}
 use lib.Dec.{eqb, leb}
 use lib.Ieee.{Float}
 use lib.ListN.{length}
-use Rattle.laws.specs.Choice.{pick-yes, pick-no, pick-if}
+use Rattle.laws.specs.Choice.{pick-yes, pick-no, pick-if, both}
 use Rattle.tau_steps.specs.Ranges.{rangedOf, Ranged}
 use Rattle.tau_steps.proofs.Ranged.{ranged-is, ranged-true}
 use Rattle.tau_steps.specs.declared.state.TauCanceller.{TauCanceller}
@@ -23,10 +23,6 @@ use Rattle.tau.specs.Fresh.{emptyOf}
 use Rattle.tau.specs.Pairs.{Engine, pairsOf, flushedOf}
 use Rattle.tau.specs.Calls.{settingsOf, sizedOf, createRefusal, stateRefusal, deliversOf, pairsRefusal, processRefusal, flushRefusal, Begun, Called, begunOf, createOf, resetOf, refusedOf, servedOf, processOf, flushOf}
 use Rattle.tau.specs.Stream.{stateNumber, processNumber, flushNumber}
-
-pub both : (a b : Bool) → (a && b) ≡ true → (a ≡ true) × (b ≡ true)
-both true b h = (refl, h)
-both false b h = absurd (true≢false (sym h))
 
 -- ---- the state and the lent buffers
 

@@ -24,22 +24,22 @@ use lib.Ieee.{Float, nan, inf, binary32, fits, eq, ofBits}
 use lib.ListN.{length, set, take, drop, replicate, length-set, length-append, length-map, length-replicate, take-append-drop}
 use lib.Seq.{take-all, take-at, take-suc-set, take-append-le, take-append-add, length-take-le}
 use Rattle.laws.specs.Choice.{pick, pick-if}
-use Rattle.laws.specs.Kinds.{All, all-none, all-cons, all-append, all-replicate}
+use Rattle.laws.specs.Kinds.{All, Kept, all-none, all-cons, all-append, all-replicate}
 use Rattle.numbers.specs.Finite.{plus, isFinite, finiteOrZero}
-use Rattle.numbers.specs.Zeros.{Zero, Finite}
+use Rattle.numbers.specs.Zeros.{Zero, Finite, Fits, Still}
 use Rattle.numbers.proofs.Zeros.{plus-zero, zero-finite, zero-of-eq}
 use Rattle.numbers.proofs.Clean.{clean-finite, clean-fits}
 use Rattle.tau_steps.specs.Constants.{zero32}
 use Rattle.tau_steps.specs.Report.{reportOf}
 use Rattle.tau_steps.specs.declared.state.TauCanceller.{TauCanceller}
-use Rattle.tau_block.specs.Silence.{Kept, Fits, Near, Silent}
+use Rattle.tau_block.specs.Silence.{Near, Silent}
 use Rattle.tau_block.proofs.Ran.{ran-handed}
 use Rattle.tau_block.proofs.Silence.{cleared-silent, block-passed}
 use Rattle.tau.specs.Fresh.{freshMic, freshOf}
 use Rattle.tau.specs.Pairs.{Engine, Run, waitsOf, carrying, blockOf, fillOf, pairOf, pairsOf, padded, flushedOf}
 use Rattle.tau.specs.Calls.{deliversOf, begunOf, processOf, flushOf}
 use Rattle.tau.specs.Stream.{begunBy, ranBy, Part, cleanOf, joined, nearOf, farOf, rowOf, AllAccepted, Call, feed, flush, reset}
-use Rattle.tau.specs.Silence.{Still, heldNear, heldFar, Hushed, Begins, created, renewed, Passes, Emptied, Starts, madeBy, refusalBy, callsOf, AllTaken, takenOf, filledBy, givenOf, Gentle}
+use Rattle.tau.specs.Silence.{heldNear, heldFar, Hushed, Begins, created, renewed, Passes, Emptied, Starts, madeBy, refusalBy, callsOf, AllTaken, takenOf, filledBy, givenOf, Gentle}
 use Rattle.tau.proofs.Accepted.{accepted-state, accepted-settings, accepted-pairs, create-answers, create-began, reset-answers, reset-began, reset-refused, process-answers, process-refused, flush-answers, flush-ran, flush-refused}
 use Rattle.tau.proofs.Counts.{block-delivers, delivers}
 use Rattle.tau.proofs.Cut.{joined-first, cut, served-ran, call-ran, row-runs, row-level}

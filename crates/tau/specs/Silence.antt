@@ -5,22 +5,17 @@ use mathlib.Core.Bool.{Bool, true}
 use mathlib.Core.List.{List, [], _∷_, _++_}
 use Prim.Native.Nat.{ℕ, _+_, _≤_}
 use lib.Dec.{T, eqb}
-use lib.Ieee.{Float, eq}
+use lib.Ieee.{Float}
 use lib.ListN.{length, take}
 use Rattle.laws.specs.Choice.{pick}
 use Rattle.laws.specs.Kinds.{All}
-use Rattle.numbers.specs.Finite.{plus, finiteOrZero}
-use Rattle.numbers.specs.Zeros.{Zero, Finite}
-use Rattle.tau_block.specs.Silence.{Fits, Silent}
+use Rattle.numbers.specs.Zeros.{Zero, Finite, Fits, Still}
+use Rattle.tau_block.specs.Silence.{Silent}
 use Rattle.tau.specs.Pairs.{Engine, Run, waitsOf}
 use Rattle.tau.specs.Calls.{deliversOf, createOf, resetOf, processOf, flushOf}
 use Rattle.tau.specs.Stream.{begunBy, ranBy, joined, Row, Call, feed, flush, reset}
 
 -- ---- samples and engines
-
--- no sound: what the sample is read as equals 0.0. So 0.0, -0.0, NaN and the infinities are still.
-pub record Still (y : Float) : Type 0 where
-  pub still : eq (finiteOrZero y) plus ≡ true
 
 -- the near samples that wait for their block, and the far samples
 abbrev pub heldNear : Engine → List Float

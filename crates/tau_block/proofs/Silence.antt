@@ -15,7 +15,7 @@ use lib.Ieee.{Float, nan, fin, binary32, binary64, add, sub, mul, lt, ne, ofBits
 use lib.ListN.{length, getD, take, drop, replicate, length-append, length-drop, length-map, length-replicate, getD-replicate}
 use lib.Seq.{length-take-le, take-at, take-all, ext-getD}
 use Rattle.laws.specs.Choice.{pick, pick-if}
-use Rattle.laws.specs.Kinds.{all-get, all-take, all-drop, all-append, all-replicate, all-table2, all-over-to, all-over2-to, all-map, all-places, all-part, all-with, iter-keeps}
+use Rattle.laws.specs.Kinds.{Kept, all-get, all-take, all-drop, all-append, all-replicate, all-table2, all-over-to, all-over2-to, all-map, all-places, all-part, all-with, iter-keeps}
 use Rattle.laws.specs.Loops.{iter, length-over, length-over2}
 use Rattle.laws.specs.Parts.{part, withPart, length-part, length-with}
 use Rattle.laws.specs.Readings.{over-copied}
@@ -25,7 +25,6 @@ use Rattle.numbers.specs.Zeros.{Zero, Faint, Plus, Blank}
 use Rattle.numbers.proofs.Values.{sub-zero}
 use Rattle.numbers.proofs.Zeros.{faints, pluses, plus-zero, plus-add, plus-mul, plus-blank, plus-faint, zero-faint, zero-finite, zero-ne, zero-square, finite-true}
 use Rattle.fft.specs.Calls.{samplesOf}
-use Rattle.fft.proofs.Keeps as keeps
 use Rattle.fft.proofs.Silence.{silent-spectrum, silent-samples, faint-spectrum, faint-samples}
 use Rattle.tau_steps.specs.After.{Wrote, WroteBoth}
 use Rattle.tau_steps.specs.Clears.{divergeShadow, retireOutput}
@@ -44,7 +43,7 @@ use Rattle.tau_steps.specs.declared.state.TauCanceller.{TauCanceller}
 use Rattle.tau_block.specs.Block.{filtered, compares, delivered, listen, runBlock}
 use Rattle.tau_block.specs.Far.{slid, sounds, nextSlot, peakOf, drives, hearFar}
 use Rattle.tau_block.specs.Filter.{added, slotOf, echoTo, echoOf, latter, errorAt, errorsOf, badTo, shadowed, estimated}
-use Rattle.tau_block.specs.Silence.{Kept, Near, Silent, Passed}
+use Rattle.tau_block.specs.Silence.{Near, Silent, Passed}
 use Rattle.tau_block.specs.Suppressor.{suppressed}
 use Rattle.tau_block.specs.Update.{gradientAt, gradientOf, constrained, stepped, finiteTo, Learnt, learntAt, learntTo, verdictOn, updated}
 use Rattle.tau_block.specs.declared.block.Filtered.{Filtered}
@@ -106,13 +105,6 @@ part-keeps {l = l} p b h = record { long = length-part 514 p l (omega (arith, h 
 with-keeps : {Q : Float → Type 0} {n : ℕ} {l v : List Float} (p : ℕ) → p < n → Kept Q (514 * n) l → Kept Q 514 v → Kept Q (514 * n) (withPart 514 p l v)
 with-keeps {l = l} {v = v} p b h k = record { long = length-with 514 p l v (omega (arith, h .long)) (k .long) ∙ h .long; all = all-with 514 p (h .all) (k .all) }
 
--- the transform's laws have the same record under its own name
-in-keeps : {Q : Float → Type 0} {n : ℕ} {l : List Float} → Kept Q n l → keeps.Kept Q n l
-in-keeps h = record { long = h .long; all = h .all }
-
-of-keeps : {Q : Float → Type 0} {n : ℕ} {l : List Float} → keeps.Kept Q n l → Kept Q n l
-of-keeps h = record { long = h .long; all = h .all }
-
 -- ---- steps 1 and 4: nothing is heard
 
 -- the window slid,
@@ -167,7 +159,7 @@ heard-hushed {s} {far} {sh} {ou} {xs} S F =
       still = neither (s .far .«far_active») (sounds far 256) (S .still) (sounds-not F);
       peak = p;
       window = w;
-      spectra = with-keeps (nextSlot (s .partitions) (s .far .head)) r (S .spectra) (of-keeps (silent-spectrum (slid (s .far .window) far) (in-keeps w)));
+      spectra = with-keeps (nextSlot (s .partitions) (s .far .head)) r (S .spectra) (silent-spectrum (slid (s .far .window) far) w);
       quiet = drives-not (peakOf (s .far .«far_energy_peak») (energyOf far 256)) (energyOf far 256) p;
     }
 
@@ -202,7 +194,7 @@ echo-plus {ws} {xs} head parts b W X =
 estimate-is : {ws xs : List Float} (head parts : ℕ) → 0 < parts → Kept Plus (514 * parts) ws → Kept Zero (514 * parts) xs
     → latter (samplesOf (echoOf ws xs head parts)) ≡ replicate 256 plus
 unfolding latter
-estimate-is {ws} {xs} head parts b W X = ap (drop 256) (silent-samples (echoOf ws xs head parts) (in-keeps (echo-plus head parts b W X)))
+estimate-is {ws} {xs} head parts b W X = ap (drop 256) (silent-samples (echoOf ws xs head parts) (echo-plus head parts b W X))
 
 -- ---- so the error is near
 
@@ -292,12 +284,12 @@ gradient-faint {x} e rates X = record {
 constrained-faint : {g : List Float} → Kept Faint 514 g → Kept Faint 514 (constrained g)
 unfolding constrained
 constrained-faint {g} h =
-    let t = faint-samples g (in-keeps h) in
+    let t = faint-samples g h in
     let l : length (take 256 (samplesOf g)) ≡ 256 = length-take-le 256 (samplesOf g) (omega (arith, t .long)) in
-    of-keeps (faint-spectrum (take 256 (samplesOf g) ++ replicate 256 zero32) (record {
+    faint-spectrum (take 256 (samplesOf g) ++ replicate 256 zero32) (record {
       long = length-append (take 256 (samplesOf g)) (replicate 256 zero32) ∙ rw l refl;
       all = all-append (all-take 256 (t .all)) (all-replicate 256 zero32 (zero-faint (plus-zero plus32)));
-    }))
+    })
 
 -- +0.0 with that added
 stepped-blank : {g w : List Float} → Kept Faint 514 g → Kept Plus 514 w → Kept Blank 514 (stepped g w)

@@ -4,23 +4,13 @@ use mathlib.Core.Path.{_≡_}
 use mathlib.Core.Bool.{false}
 use mathlib.Core.List.{List}
 use Prim.Native.Nat.{ℕ, _*_, _<_}
-use lib.Dec.{T}
-use lib.Ieee.{Float, binary32, fits}
+use lib.Ieee.{Float}
 use lib.ListN.{length, take}
-use Rattle.laws.specs.Kinds.{All}
-use Rattle.numbers.specs.Zeros.{Zero, Plus, Finite}
+use Rattle.laws.specs.Kinds.{All, Kept}
+use Rattle.numbers.specs.Zeros.{Zero, Plus, Finite, Fits}
 use Rattle.tau_steps.specs.Constants.{zero64}
 use Rattle.tau_steps.specs.declared.state.TauCanceller.{TauCanceller}
 use Rattle.tau_block.specs.Block.{Ran}
-
--- n numbers, all of a kind
-pub record Kept (P : Float → Type 0) (n : ℕ) (l : List Float) : Type 0 where
-  pub long : length l ≡ n
-  pub all : All P l
-
--- an f32
-pub record Fits (x : Float) : Type 0 where
-  pub fit : T (fits binary32 x)
 
 -- a near block: 256 finite f32 samples
 pub record Near (near : List Float) : Type 0 where

@@ -1,15 +1,12 @@
 -- Refusal 6's test, and what it tells: a state that passes has its six numbers in their ranges, and one that has them there passes.
 -- Assumes nothing.
-use mathlib.Core.Path.{_≡_, refl, sym}
-use mathlib.Core.Bool.{Bool, true, false, _&&_, true≢false}
+use mathlib.Core.Path.{_≡_}
+use mathlib.Core.Bool.{true}
 use lib.Dec.{ltb, leb}
 use borrow.Author.Tests.{leb-true, ltb-true, le-leb, lt-ltb}
+use Rattle.laws.specs.Choice.{both}
 use Rattle.tau_steps.specs.Ranges.{rangedOf, Ranged}
 use Rattle.tau_steps.specs.declared.state.TauCanceller.{TauCanceller}
-
-both : (a b : Bool) → (a && b) ≡ true → (a ≡ true) × (b ≡ true)
-both true b h = (refl, h)
-both false b h = absurd (true≢false (sym h))
 
 pub ranged-is : (s : TauCanceller) → rangedOf s ≡ true → Ranged s
 unfolding rangedOf

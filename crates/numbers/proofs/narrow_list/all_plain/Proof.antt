@@ -1,18 +1,15 @@
 -- `numbers::all_plain` meets its contract: while the flag stands, every pattern passed is plain. Assumes nothing.
-use mathlib.Core.Path.{_≡_, refl, sym}
-use mathlib.Core.Bool.{Bool, true, false, _&&_, true≢false}
+use mathlib.Core.Path.{_≡_}
+use mathlib.Core.Bool.{true}
 use Prim.Native.Nat.{ℕ, _-_, _≤_, _<_}
 use native.Mathlib.Omega.{arith}
 use borrow.Author.Count.{below-more}
 use borrow.Author.Needs.{needs}
 use lib.ListN.{getD}
+use Rattle.laws.specs.Choice.{both}
 use Rattle.numbers.specs.Narrowing.{Plain}
 use Rattle.numbers.proofs.narrow_list.all_plain.Statement.{statement}
 use Rattle.numbers.proofs.narrow_list.all_plain.Tie as tie
-
-both : (a b : Bool) → (a && b) ≡ true → (a ≡ true) × (b ≡ true)
-both true b h = (refl, h)
-both false b h = absurd (true≢false (sym h))
 
 abbrev Inv-loop : tie.InvT-loop
 Inv-loop b plain₀ k₀ plain k = (k ≤ 16) × (plain ≡ true → (j : ℕ) → j < k → Plain (getD b j 0))

@@ -1,17 +1,14 @@
 -- `numbers::narrow_into` meets its contract: a group is sixteen places more of one `over`, and what is left goes to the end of the shorter list. Assumes nothing.
-use mathlib.Core.Path.{_≡_, refl, sym, ap, _∙_}
+use mathlib.Core.Path.{_≡_, sym, ap, _∙_}
 use mathlib.Core.List.{List}
-use mathlib.Core.Logic.{_⊎_, inl, inr}
-use Prim.Native.Nat.{ℕ, _+_, _-_, _≤_, _<_, min}
-use native.Mathlib.Nat.{le-of-lt, min-eq-left, min-eq-right}
+use Prim.Native.Nat.{ℕ, _+_, _-_, _≤_, min}
 use native.Mathlib.Omega.{arith}
 use borrow.Author.Needs.{needs}
 use lib.Ieee.{Float, nan}
 use lib.ListN.{length, getD}
-use Rattle.laws.specs.Loops.{over, overAt, over-none, over-whole, length-over}
-use Rattle.laws.specs.Readings.{over-split}
+use Rattle.laws.specs.Loops.{over, overAt, over-none}
+use Rattle.laws.specs.Readings.{over-split, over-least}
 use Rattle.numbers.specs.Narrowing.{narrowOf}
-use Rattle.numbers.proofs.Rounding.{lt-or-ge}
 use Rattle.numbers.proofs.narrow_list.narrow_into.Statement.{statement}
 use Rattle.numbers.proofs.narrow_list.narrow_into.Tie as tie
 
@@ -23,20 +20,9 @@ module _ (xs d : List Float) where
   next : (m k : ℕ) {out r : List Float} → out ≡ over m narrowed d → r ≡ overAt m k (λ j. narrowed (m + j)) out → r ≡ over (m + k) narrowed d
   next m k e h = h ∙ ap (overAt m k (λ j. narrowed (m + j))) e ∙ sym (over-split narrowed d m k)
 
-  -- past the end of d nothing is changed
-  clipped : over (min (length xs) (length d)) narrowed d ≡ over (length xs) narrowed d
-  clipped = go (lt-or-ge (length d) (length xs))
-    where
-      room : length d < length xs → length (over (length xs) narrowed d) ≤ length xs
-      room h = rw length-over (le-of-lt h)
-
-      go : (length d < length xs) ⊎ (length xs ≤ length d) → over (min (length xs) (length d)) narrowed d ≡ over (length xs) narrowed d
-      go (inl h) = ap (λ (n : ℕ). over n narrowed d) (min-eq-right (le-of-lt h)) ∙ sym (over-whole narrowed d (length xs) refl (room h))
-      go (inr h) = ap (λ (n : ℕ). over n narrowed d) (min-eq-left h)
-
   -- the places that are left after the first m
   rest : (m n : ℕ) {out r : List Float} → m ≤ n → n ≡ min (length xs) (length d) → out ≡ over m narrowed d → r ≡ overAt m (n - m) (λ j. narrowed (m + j)) out → r ≡ over (length xs) narrowed d
-  rest m n l q e h = let p : m + (n - m) ≡ min (length xs) (length d) = omega arith in next m (n - m) e h ∙ ap (λ (k : ℕ). over k narrowed d) p ∙ clipped
+  rest m n l q e h = let p : m + (n - m) ≡ min (length xs) (length d) = omega arith in next m (n - m) e h ∙ ap (λ (k : ℕ). over k narrowed d) p ∙ over-least narrowed d (length xs)
 
 abbrev Inv-loop : tie.InvT-loop
 Inv-loop xs out₀ n at₀ out at = (length out ≡ length out₀) × (at ≤ n) × (out ≡ over at (λ k x. narrowOf (getD xs k nan)) out₀)

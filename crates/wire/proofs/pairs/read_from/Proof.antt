@@ -6,7 +6,7 @@ use borrow.Author.Needs.{needs}
 use lib.ListN.{length, length-set}
 use Rattle.laws.specs.Loops.{loops, over, over-turn, over-end}
 use Rattle.wire.specs.Wire.{sampleAt}
-use Rattle.wire.proofs.Clipped.{over-clip}
+use Rattle.laws.specs.Readings.{over-clip}
 use Rattle.wire.proofs.pairs.read_from.Statement.{statement}
 use Rattle.wire.proofs.pairs.read_from.Tie as tie
 

@@ -7,7 +7,7 @@ use borrow.Author.Tests.{ltb-true, ltb-false}
 use lib.ListN.{length, length-set}
 use Rattle.laws.specs.Loops.{loops, over, over-next, over-end}
 use Rattle.wire.specs.Wire.{writtenAt}
-use Rattle.wire.proofs.Clipped.{over-both}
+use Rattle.laws.specs.Readings.{over-both}
 use Rattle.wire.proofs.samples.write_samples.Statement.{statement}
 use Rattle.wire.proofs.samples.write_samples.Tie as tie
 
