@@ -1,1 +1,1 @@
-pub mod Clipped
+pub mod Captures
