@@ -1,0 +1,67 @@
+// TauCanceller over bytes: what the program does between a read and a write, with no reading and no writing in it.
+//
+// A capture's bytes go in and the delivered samples' bytes come out. The calls refuse as TauCanceller's own do, and a refused one writes
+// nothing.
+use tau::Answer;
+use tau_steps::state::TauCanceller;
+ghost use mathlib.Core.Path.{_≡_};
+ghost use Prim.Native.Nat.{min};
+ghost use Rattle.capture.specs.Feeds.{fedOf, finishedOf};
+
+// The whole pairs of `held`, at most 4,096 of them, are processed. What they deliver stands at the front of `bytes`, four a sample.
+pub fn feed(
+    s: TauCanceller,
+    shadow: &mut [f64],
+    output: &mut [f64],
+    spectra: &mut [f64],
+    held: &[u8],
+    bytes: &mut [u8],
+) -> Answer
+    ensures { λ r. ⌜ record { answer = r; shadow = now (shadow .exit); output = now (output .exit); spectra = now (spectra .exit); bytes = now (bytes .exit) } ≡ fedOf (record { state = s; shadow = now (shadow .entry); output = now (output .entry); spectra = now (spectra .entry) }) (now (held .entry)) (now (bytes .entry)) ⌝ }
+{
+    let end = lesser(held.len(), 32768);
+    let taken = &held[..end];
+    let pairs = wire::whole_pairs(taken);
+    let mut near = [0.0f32; 4096];
+    let mut far = [0.0f32; 4096];
+    wire::read_near(taken, &mut near);
+    wire::read_far(taken, &mut far);
+    let mut out = [0.0f32; 4096];
+    let room = lesser(bytes.len() / 4, 4096);
+    let answer = tau::process(
+        s,
+        shadow,
+        output,
+        spectra,
+        &near[..pairs],
+        &far[..pairs],
+        &mut out[..room],
+    );
+    let delivered = answer.delivered;
+    wire::write_samples(&out[..delivered], bytes);
+    answer
+}
+
+// What waits for its block is flushed.
+pub fn finish(
+    s: TauCanceller,
+    shadow: &mut [f64],
+    output: &mut [f64],
+    spectra: &mut [f64],
+    bytes: &mut [u8],
+) -> Answer
+    ensures { λ r. ⌜ record { answer = r; shadow = now (shadow .exit); output = now (output .exit); spectra = now (spectra .exit); bytes = now (bytes .exit) } ≡ finishedOf (record { state = s; shadow = now (shadow .entry); output = now (output .entry); spectra = now (spectra .entry) }) (now (bytes .entry)) ⌝ }
+{
+    let mut out = [0.0f32; 4096];
+    let room = lesser(bytes.len() / 4, 4096);
+    let answer = tau::flush(s, shadow, output, spectra, &mut out[..room]);
+    let delivered = answer.delivered;
+    wire::write_samples(&out[..delivered], bytes);
+    answer
+}
+
+fn lesser(a: usize, b: usize) -> usize
+    ensures { λ r. ⌜ r ≡ min a b ⌝ }
+{
+    if a < b { a } else { b }
+}
