@@ -1,6 +1,7 @@
 -- Captures cut anywhere, and read back. Assumes nothing.
 --     near-cut, far-cut, rest-cut     a capture cut in two: its pairs are those of the first part, and then those of what that leaves, the
 --                          second part behind it
+--     near-same, far-same  where that makes no pair whole, there are no pairs more
 --     rest-short           fewer than eight bytes are left
 --     length-near, length-far, length-bytes     a sample a pair; four bytes a sample
 --     bytes-join           one sample after the other
@@ -128,6 +129,21 @@ rest-cut a b =
   where
     off : (m n k : ℕ) → k ≡ 8 * n → 8 * (n + m) ≡ k + 8 * m
     off m n k e = omega arith
+
+-- a second part that makes no pair whole adds none
+table-short : (s : List ℕ) (f : ℕ → Float) → length s < 8 → table (pairsIn s) f ≡ []
+table-short s f h = table-none f (go (length s) h)
+  where
+    go : (n : ℕ) → n < 8 → n / 8 ≡ 0
+    go n h = omega arith
+
+pub near-same : (a b : List ℕ) → length (restIn a ++ b) < 8 → nearIn (a ++ b) ≡ nearIn a
+unfolding nearIn
+near-same a b h = near-cut a b ∙ ap (λ (l : List Float). nearIn a ++ l) (table-short (restIn a ++ b) (λ k. sampleAt (restIn a ++ b) (2 * k)) h) ∙ append-nil (nearIn a)
+
+pub far-same : (a b : List ℕ) → length (restIn a ++ b) < 8 → farIn (a ++ b) ≡ farIn a
+unfolding farIn
+far-same a b h = far-cut a b ∙ ap (λ (l : List Float). farIn a ++ l) (table-short (restIn a ++ b) (λ k. sampleAt (restIn a ++ b) (2 * k + 1)) h) ∙ append-nil (farIn a)
 
 pub rest-short : (a : List ℕ) → length (restIn a) < 8
 rest-short a = rw (length-drop (8 * pairsIn a) a) (omega arith)
