@@ -6,6 +6,7 @@
 --     near-read, far-read  the samples of those pairs, at the front of their buffer
 --     process-front, flush-front     what a call delivers lies in the longer buffer
 --     process-written, flush-written     and its bytes, written, make up what the definition says
+--     fed-sends, finished-sends     so the bytes of what was delivered lie in the buffer for bytes
 use mathlib.Core.Path.{_≡_, refl, sym, ap, _∙_, subst}
 use mathlib.Core.List.{List, _++_}
 use mathlib.Core.Logic.{inl, inr}
@@ -28,7 +29,7 @@ use Rattle.tau.proofs.Accepted.{accepted-pairs, accepted-flush}
 use Rattle.tau.proofs.Counts.{delivers, flushed-delivers}
 use Rattle.wire.specs.Wire.{sampleAt, pairsIn, nearIn, farIn, writtenAt, bytesOf}
 use Rattle.wire.proofs.Captures.{near-front, far-front, written-front}
-use Rattle.capture.specs.Feeds.{roomOf, writtenBy, fedOf, finishedOf}
+use Rattle.capture.specs.Feeds.{Fed, roomOf, writtenBy, fedOf, finishedOf}
 
 pub process-fits : (e : Engine) (near far out : List Float) → processOf e near far out .answer .delivered ≤ length out
 unfolding processOf
@@ -119,3 +120,21 @@ process-written c e near far z d s held bytes b h l n f t r w =
     let fars : far ≡ farIn (take 32768 held) = f ∙ ap farIn t in
     let same : processOf e near far z ≡ processOf e (nearIn (take 32768 held)) (farIn (take 32768 held)) (roomOf bytes) = rw (nears, fars, r) refl in
     written c (processOf e near far z) z d h (process-fits e near far z) l bytes b (omega (arith, m)) w ∙ ap (λ (x : Called). writtenBy x bytes) same
+
+-- ---- so the bytes of what was delivered lie in the buffer for bytes
+
+module _ (f k : Fed) (z : List Float) (bytes : List ℕ) (e : f ≡ k) (long : length (f .bytes) ≡ length bytes) (room : z ≡ roomOf bytes) where
+  sends : k .answer .delivered ≤ length z → 4 * f .answer .delivered ≤ length (f .bytes)
+  sends h =
+      let d = ap (λ (x : Fed). x .answer .delivered) e in
+      let l = ap length room ∙ length-replicate (min (length bytes / 4) 4096) zero32 in
+      omega (arith, h, d, l, long)
+
+pub fed-sends : (f : Fed) (e : Engine) (held bytes : List ℕ) → f ≡ fedOf e held bytes → length (f .bytes) ≡ length bytes → 4 * f .answer .delivered ≤ length (f .bytes)
+unfolding fedOf
+fed-sends f e held bytes h l =
+    sends f (fedOf e held bytes) (roomOf bytes) bytes h l refl (process-fits e (nearIn (take 32768 held)) (farIn (take 32768 held)) (roomOf bytes))
+
+pub finished-sends : (f : Fed) (e : Engine) (bytes : List ℕ) → f ≡ finishedOf e bytes → length (f .bytes) ≡ length bytes → 4 * f .answer .delivered ≤ length (f .bytes)
+unfolding finishedOf
+finished-sends f e bytes h l = sends f (finishedOf e bytes) (roomOf bytes) bytes h l refl (flush-fits e (roomOf bytes))

@@ -47,12 +47,21 @@ sentBy f = take (4 * f .answer .delivered) (f .bytes)
 abbrev pub buffer : List ℕ
 buffer = replicate 16384 0
 
--- a read: its bytes go behind those that wait, and what is behind the last whole pair waits again
+-- a turn on the bytes held: they are fed, and what is behind the last whole pair waits
+pub record Turned : Type 0 where
+  pub engine : Engine
+  pub rest : List ℕ
+
+abbrev pub turnOf : Engine → List ℕ → Turned
+turnOf e held = record { engine = leftBy (fedOf e held buffer); rest = restIn held }
+
+-- a read: its bytes go behind those that wait
 unfoldable pub readOf : Going → List ℕ → Going
 readOf g r =
     let held = g .rest ++ r in
     let f = fedOf (g .engine) held buffer in
-    record { engine = leftBy f; rest = restIn held; written = g .written ++ sentBy f; refusals = g .refusals ++ (f .answer .refusal ∷ []) }
+    let t = turnOf (g .engine) held in
+    record { engine = t .engine; rest = t .rest; written = g .written ++ sentBy f; refusals = g .refusals ++ (f .answer .refusal ∷ []) }
 
 unfoldable pub readsOf : Going → List (List ℕ) → Going
 readsOf g [] = g

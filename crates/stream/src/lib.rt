@@ -1,8 +1,9 @@
-// The program's work: pairs from standard input, TauCanceller with four partitions and suppression, its samples to standard output.
+// The program's reading and writing: pairs from standard input, TauCanceller with four partitions and suppression, its samples to standard
+// output. What comes between a read and a write is `capture`'s.
 //
 // A read may end inside a pair: what is left of it, fewer than eight bytes, waits at the block's start for the next. At the input's
 // end an unfinished pair is dropped, and the flush comes last. A read or a write that fails is told of on standard error, and ends
-// the run; after a failed read what was read is still flushed.
+// the run; after a failed read what was read is still flushed. No call is refused (theorem `program` of capture).
 mod output;
 
 use libc::STDIN_FILENO;
@@ -11,7 +12,8 @@ use output::emit;
 use tau_steps::state::TauCanceller;
 ghost use mathlib.Core.Path.{_≡_};
 ghost use Prim.Native.Nat.{_<_, _≤_};
-ghost use lib.ListN.{length};
+ghost use lib.ListN.{length, take};
+ghost use Rattle.capture.specs.Program.{turnOf};
 
 // What a turn leaves to the next: how many bytes wait in the block, whether to go on, and whether all that was to be written was.
 pub struct Turn {
@@ -32,7 +34,7 @@ pub fn run() {
 
 // A proved loop has to end, and nothing says that the input does. So it counts its turns down, from a number that no run uses up.
 fn drive(start: TauCanceller, shadow: &mut [f64], output: &mut [f64], spectra: &mut [f64]) {
-    let mut block = [0u8; 32768];
+    let mut block = [0u8; 32776];
     let mut state = start;
     let mut left = 0usize;
     let mut goes_on = true;
@@ -52,7 +54,7 @@ fn drive(start: TauCanceller, shadow: &mut [f64], output: &mut [f64], spectra: &
     }
 }
 
-// One read, and what it makes whole: at most 4,096 pairs, as the block holds.
+// One read of at most 32,768 bytes, behind those that wait, and what it makes whole.
 fn one_turn(
     left: usize,
     state: TauCanceller,
@@ -62,10 +64,11 @@ fn one_turn(
     spectra: &mut [f64],
 ) -> Turn
     requires { ⌜ left < 8 ⌝ }
-    requires { ⌜ length (now block) ≡ 32768 ⌝ }
+    requires { ⌜ length (now block) ≡ 32776 ⌝ }
     ensures { λ r. ⌜ r .left < 8 ⌝ }
 {
-    let got = libc::read(STDIN_FILENO, &mut block[left..]);
+    let end = left + 32768;
+    let got = libc::read(STDIN_FILENO, &mut block[left..end]);
     if got < 0 {
         complain(b"aec: a read failed\n");
         return ended(left, state);
@@ -73,11 +76,11 @@ fn one_turn(
     if got == 0 {
         return ended(left, state);
     }
-    let held = left + io::count(got, &block[left..]);
+    let held = left + io::count(got, &block[left..end]);
     worked(held, state, block, shadow, output, spectra)
 }
 
-// The pairs among the bytes held, and what they deliver.
+// The pairs among the bytes held, and what they deliver. All but the writing is said: the engine and the bytes that then wait.
 fn worked(
     held: usize,
     state: TauCanceller,
@@ -86,27 +89,14 @@ fn worked(
     output: &mut [f64],
     spectra: &mut [f64],
 ) -> Turn
-    requires { ⌜ held ≤ 32768 ⌝ }
-    requires { ⌜ length (now block) ≡ 32768 ⌝ }
+    requires { ⌜ held ≤ length (now block) ⌝ }
     ensures { λ r. ⌜ r .left < 8 ⌝ }
+    ensures { λ r. ⌜ record { engine = record { state = r .state; shadow = now (shadow .exit); output = now (output .exit); spectra = now (spectra .exit) }; rest = take (r .left) (now (block .exit)) } ≡ turnOf (record { state = state; shadow = now (shadow .entry); output = now (output .entry); spectra = now (spectra .entry) }) (take held (now (block .entry))) ⌝ }
 {
-    let mut near = [0.0f32; 4096];
-    let mut far = [0.0f32; 4096];
-    wire::read_near(&block[..held], &mut near);
-    wire::read_far(&block[..held], &mut far);
+    let mut bytes = [0u8; 16384];
+    let answer = capture::feed(state, shadow, output, spectra, &block[..held], &mut bytes);
     wire::keep_rest(held, block);
-    let pairs = held / 8;
-    let mut out = [0.0f32; 4096];
-    let answer = tau::process(
-        state,
-        shadow,
-        output,
-        spectra,
-        &near[..pairs],
-        &far[..pairs],
-        &mut out,
-    );
-    let is_written = emit(&out, answer.delivered);
+    let is_written = emit(&bytes, answer.delivered);
     let after = answer.state;
     Turn {
         left: held % 8,
@@ -129,7 +119,7 @@ fn ended(left: usize, state: TauCanceller) -> Turn
 }
 
 fn finish(state: TauCanceller, shadow: &mut [f64], output: &mut [f64], spectra: &mut [f64]) {
-    let mut out = [0.0f32; 256];
-    let answer = tau::flush(state, shadow, output, spectra, &mut out);
-    emit(&out, answer.delivered);
+    let mut bytes = [0u8; 1024];
+    let answer = capture::finish(state, shadow, output, spectra, &mut bytes);
+    emit(&bytes, answer.delivered);
 }

@@ -6,6 +6,7 @@
 --     length-near, length-far, length-bytes     a sample a pair; four bytes a sample
 --     bytes-join           one sample after the other
 --     written-front        what `write_samples` leaves: the bytes, and then what was there
+--     rest-kept            what `keep_rest` leaves: what is left of the bytes held
 --     near-front, far-front     what `read_near` and `read_far` leave, as far as the pairs go
 --     read-again           what was written is read again, where every sample is an f32
 use mathlib.Core.Path.{_≡_, refl, sym, ap, _∙_}
@@ -16,11 +17,11 @@ use native.Mathlib.Omega.{arith}
 use lib.Ieee.{Float, nan, binary32, ofBits, toBits}
 use lib.Ieee.Bits.{ofBits-toBits, toBits-lt}
 use lib.ListN.{length, getD, take, drop, List·getD-append, length-append, length-drop, take-append-drop}
-use lib.Seq.{getD-append-add, length-take-le, take-at, drop-append-add}
+use lib.Seq.{getD-append-add, getD-take, length-take-le, take-at, drop-append-add}
 use Rattle.laws.specs.Choice.{pick}
 use Rattle.laws.specs.Kinds.{All, all-get}
-use Rattle.laws.specs.Loops.{over}
-use Rattle.laws.specs.Readings.{over-placed}
+use Rattle.laws.specs.Loops.{over, length-over}
+use Rattle.laws.specs.Readings.{over-cong, over-front, over-placed, over-dropped}
 use Rattle.laws.specs.Tables.{table, length-table, table-at, table-cong, table-split}
 use Rattle.numbers.specs.Zeros.{Fits}
 use Rattle.wire.specs.Wire.{patternAt, sampleAt, pairsIn, nearIn, farIn, restIn, placeOf, byteOf, writtenAt, bytesOf}
@@ -200,6 +201,27 @@ pub written-front : (xs : List Float) (d : List ℕ) → 4 * length xs ≤ lengt
     → over (4 * length xs) (λ i b. writtenAt xs i) d ≡ bytesOf xs ++ drop (4 * length xs) d
 unfolding bytesOf
 written-front xs d h = over-placed (4 * length xs) (writtenAt xs) d h
+
+-- what `keep_rest` leaves at the block's start: what is left of the bytes held
+pub rest-kept : (held : ℕ) (d : List ℕ) → held ≤ length d → take (held % 8) (over (held % 8) (λ k x. getD d (held / 8 * 8 + k) 0) d) ≡ restIn (take held d)
+rest-kept held d h =
+    let a = held / 8 * 8 in
+    let m = held % 8 in
+    let F : ℕ → ℕ → ℕ = λ k x. getD d (a + k) 0 in
+    let t = take held d in
+    let l : length t ≡ held = length-take-le held d h in
+    let n : length (take m d) ≡ m = length-take-le m d (omega (arith, h)) in
+    ap (take m) (over-front m F d)
+    ∙ take-at (over m F (take m d)) (drop m d) m (length-over m F (take m d) ∙ n)
+    ∙ over-cong F (λ k x. getD t (a + k) 0) (take m d) m (λ k x b. sym (getD-take held d (a + k) 0 (omega arith)))
+    ∙ over-dropped 0 a m t (take m d) (l ∙ parts held) n
+    ∙ ap (λ (k : ℕ). drop k t) (eights held (length t) l)
+  where
+    parts : (n : ℕ) → n ≡ n / 8 * 8 + n % 8
+    parts n = omega arith
+
+    eights : (n k : ℕ) → k ≡ n → n / 8 * 8 ≡ 8 * (k / 8)
+    eights n k e = omega arith
 
 front : (n : ℕ) (f : ℕ → Float) (d : List Float) → n ≤ length d → take n (over n (λ k x. f k) d) ≡ table n f
 front n f d h = ap (take n) (over-placed n f d h) ∙ take-at (table n f) (drop n d) n (length-table n f)
