@@ -1,6 +1,6 @@
 -- One lemma, and its instances. Assumes nothing.
 use mathlib.Core.Path.{_≡_, sym, _∙_}
-use Rattle.promises.specs.Answers.{One, Numbers, Tables, Complexes, Transforms, Rho, Tau}
+use Rattle.promises.specs.Answers.{One, Numbers, Tables, Complexes, Transforms, Rho, Tau, Bytes}
 
 pub one : {A : Type 0} (d : A) → One d
 one d x y h k = h ∙ sym k
@@ -22,3 +22,6 @@ rho rate tail e near far out = (one _, one _, one _, one _)
 
 pub tau : Tau
 tau parts flag sh ou xs e near far out = (one _, one _, one _, one _)
+
+pub bytes : Bytes
+bytes s out xs buf n e = (one _, one _, one _, one _, one _, one _, one _)

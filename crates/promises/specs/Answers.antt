@@ -4,9 +4,11 @@
 use mathlib.Core.Path.{_≡_}
 use mathlib.Core.Bool.{Bool}
 use mathlib.Core.List.{List}
-use Prim.Native.Nat.{ℕ}
+use Prim.Native.Nat.{ℕ, _+_, _*_, _/_, _%_}
+use lib.Dec.{leb}
 use lib.Ieee.{Float, nan, binary32, binary64, ofBits, toBits}
 use lib.ListN.{length, getD}
+use Rattle.laws.specs.Choice.{pick}
 use Rattle.laws.specs.Loops.{over}
 use Rattle.numbers.specs.Order.{absOf, minOf, maxOf, clampOf}
 use Rattle.numbers.specs.Finite.{isFinite, finiteOrZero}
@@ -21,6 +23,8 @@ use Rattle.rho.specs.Sample as sample
 use Rattle.rho.specs.Calls as rho
 use Rattle.tau.specs.Pairs.{Engine}
 use Rattle.tau.specs.Calls as tau
+use Rattle.wire.specs.Wire.{pairsIn, sampleAt, writtenAt}
+use Rattle.capture.specs.Feeds as capture
 
 -- two that equal d equal each other
 abbrev pub One : {A : Type 0} → A → Type 0
@@ -69,3 +73,14 @@ Rho = (rate tail : ℕ) (e : sample.Engine) (near far out : List Float)
 abbrev pub Tau : Type 0
 Tau = (parts : ℕ) (flag : Bool) (sh ou xs : List Float) (e : Engine) (near far out : List Float)
     → One (tau.createOf parts flag sh ou xs) × One (tau.processOf e near far out) × One (tau.flushOf e out) × One (tau.resetOf e)
+
+-- bytes: s and out are lists of bytes, xs and buf of samples, n a count
+abbrev pub Bytes : Type 0
+Bytes = (s out : List ℕ) (xs buf : List Float) (n : ℕ) (e : Engine)
+    → One (pairsIn s)
+    × One (over (pairsIn s) (λ k _. sampleAt s (2 * k)) buf)
+    × One (over (pairsIn s) (λ k _. sampleAt s (2 * k + 1)) buf)
+    × One (over (4 * length xs) (λ i _. writtenAt xs i) out)
+    × One (pick (leb n (length s)) (over (n % 8) (λ k _. getD s (n / 8 * 8 + k) 0) s) s)
+    × One (capture.fedOf e s out)
+    × One (capture.finishedOf e out)
