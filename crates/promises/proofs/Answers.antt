@@ -1,6 +1,6 @@
 -- One lemma, and its instances. Assumes nothing.
 use mathlib.Core.Path.{_≡_, sym, _∙_}
-use Rattle.promises.specs.Answers.{One, Numbers, Tables, Complexes, Transforms, Rho, Tau, Bytes}
+use Rattle.promises.specs.Answers.{One, Numbers, Tables, Complexes, Transforms, Rho, Tau, Bytes, Lists}
 
 pub one : {A : Type 0} (d : A) → One d
 one d x y h k = h ∙ sym k
@@ -25,3 +25,6 @@ tau parts flag sh ou xs e near far out = (one _, one _, one _, one _)
 
 pub bytes : Bytes
 bytes s out xs buf n e = (one _, one _, one _, one _, one _, one _, one _)
+
+pub lists : Lists
+lists a b text out = (one _, one _)

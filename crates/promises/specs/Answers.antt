@@ -25,6 +25,8 @@ use Rattle.tau.specs.Pairs.{Engine}
 use Rattle.tau.specs.Calls as tau
 use Rattle.wire.specs.Wire.{pairsIn, sampleAt, writtenAt}
 use Rattle.capture.specs.Feeds as capture
+use Rattle.line_order.specs.Order.{atMost}
+use Rattle.manifest.specs.Sorted.{answerOf}
 
 -- two that equal d equal each other
 abbrev pub One : {A : Type 0} → A → Type 0
@@ -84,3 +86,7 @@ Bytes = (s out : List ℕ) (xs buf : List Float) (n : ℕ) (e : Engine)
     × One (pick (leb n (length s)) (over (n % 8) (λ k _. getD s (n / 8 * 8 + k) 0) s) s)
     × One (capture.fedOf e s out)
     × One (capture.finishedOf e out)
+
+-- the release list: a and b are lines, text and out lists of bytes
+abbrev pub Lists : Type 0
+Lists = (a b text out : List ℕ) → One (atMost a b) × One (answerOf text out)

@@ -1,0 +1,7 @@
+pub mod Earlier
+pub mod Keys
+pub mod Numbers
+pub mod Order
+pub mod Turns
+pub mod Verdicts
+pub mod Walk

@@ -1,0 +1,4 @@
+pub mod Lines
+pub mod Sorting
+pub mod Sorted
+pub mod Steps
