@@ -1,6 +1,6 @@
 -- Lists all of a kind: what each operation on lists keeps. For any kind, and any type of element. Assumes nothing.
 use mathlib.Core.Path.{_≡_, refl, ap, _∙_}
-use mathlib.Core.Bool.{Bool, true, false, _&&_}
+use mathlib.Core.Bool.{Bool, true, _&&_}
 use mathlib.Core.List.{List, [], _∷_, _++_, map}
 use Prim.Native.Nat.{ℕ, zero, suc, _+_, _*_, _<_}
 use native.Mathlib.Nat.{not-suc-le-zero, le-of-suc-le-suc, le-refl}
@@ -9,7 +9,7 @@ use lib.Dec.{T}
 use lib.ListN.{length, getD, set, take, drop, replicate}
 use Rattle.laws.specs.Loops.{iter, over, overAt, over2}
 use Rattle.laws.specs.Parts.{part, withPart}
-use Rattle.laws.specs.Tables.{table, table2}
+use Rattle.laws.specs.Tables.{table, table2, and-l, and-r}
 
 abbrev pub Each : {A : Type 0} → (A → Type 0) → List A → Type 0
 Each P [] = T true
@@ -176,17 +176,9 @@ abbrev pub passes : {A : Type 0} → (A → Bool) → List A → Bool
 passes t [] = true
 passes t (x ∷ l) = t x && passes t l
 
-both-l : (a b : Bool) → T (a && b) → T a
-both-l true b h = tt
-both-l false b h = h
-
-both-r : (a b : Bool) → T (a && b) → T b
-both-r true b h = h
-both-r false b h = absurd h
-
 passed : {A : Type 0} (t : A → Bool) (l : List A) → T (passes t l) → Each (λ x. T (t x)) l
 passed t [] h = tt
-passed t (x ∷ l) h = (both-l (t x) (passes t l) h, passed t l (both-r (t x) (passes t l) h))
+passed t (x ∷ l) h = (and-l (t x) (passes t l) h, passed t l (and-r (t x) (passes t l) h))
 
 pub all-passes : {A : Type 0} (t : A → Bool) (l : List A) → T (passes t l) → All (λ x. T (t x)) l
 all-passes t l h = record { each = passed t l h }

@@ -15,11 +15,11 @@ use native.Mathlib.Omega.{arith}
 use lib.Dec.{T}
 use lib.ListN.{length, getD}
 
-and-l : (a b : Bool) → T (a && b) → T a
+pub and-l : (a b : Bool) → T (a && b) → T a
 and-l true b h = tt
 and-l false b h = h
 
-and-r : (a b : Bool) → T (a && b) → T b
+pub and-r : (a b : Bool) → T (a && b) → T b
 and-r true b h = h
 and-r false b h = absurd h
 

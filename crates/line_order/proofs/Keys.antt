@@ -7,13 +7,9 @@ use native.Mathlib.Omega.{arith}
 use borrow.Author.Tests.{leb-true, le-leb, lt-ltb, le-ltb}
 use lib.Dec.{leb, ltb, eqb}
 use lib.ListN.{length, take, drop}
-use Rattle.laws.specs.Choice.{pick}
+use Rattle.laws.specs.Choice.{pick, both}
 use Rattle.line_order.specs.Order.{isDigit, run, spelled, keyFrom, key, earlier}
 use Rattle.line_order.proofs.Earlier.{by-test, by-order, by-heads, heads-same, heads-differ, first-ends, second-ends}
-
-pub both : (a b : Bool) → (a && b) ≡ true → (a ≡ true) × (b ≡ true)
-both true b e = (refl, e)
-both false b e = absurd (false≢true e)
 
 neither : (a b : Bool) → (a && b) ≡ false → a ≡ true → b ≡ false
 neither true b e h = e

@@ -7,11 +7,11 @@ use native.Mathlib.Omega.{arith}
 use lib.Dec.{eqb, ltb}
 use lib.ListN.{length, getD, take, drop, drop-of-length-le}
 use lib.Seq.{drop-drop}
-use Rattle.laws.specs.Choice.{pick}
+use Rattle.laws.specs.Choice.{pick, both}
 use Rattle.line_order.specs.Order.{isDigit, run, spelled, key, earlier, atMost}
 use Rattle.line_order.specs.Steps.{comparison}
 use Rattle.line_order.proofs.Earlier.{earlier-self}
-use Rattle.line_order.proofs.Keys.{both, key-first-ends, key-second-ends, numbers-meet, bytes-same, bytes-differ, run-take, run-run, run-some}
+use Rattle.line_order.proofs.Keys.{key-first-ends, key-second-ends, numbers-meet, bytes-same, bytes-differ, run-take, run-run, run-some}
 use Rattle.line_order.proofs.Turns.{at-head}
 use Rattle.line_order.proofs.Verdicts.{comparison-decides, comparison-ties}
 

@@ -1,6 +1,6 @@
 -- The lines of joined lines are those lines, where the last of them has a byte or its newline. Assumes nothing.
 use mathlib.Core.Path.{_≡_, refl, sym, ap, _∙_}
-use mathlib.Core.Bool.{Bool, true, false}
+use mathlib.Core.Bool.{Bool, true, false, true≢false}
 use mathlib.Core.List.{List, [], _∷_, _++_, append-nil}
 use Prim.Native.Nat.{ℕ, _<_}
 use native.Mathlib.Nat.{not-suc-le-zero}
@@ -44,15 +44,12 @@ full-before : (l : List ℕ) (ls : List (List ℕ)) → 0 < length ls → LastFu
 full-before l [] n h = absurd (not-suc-le-zero n)
 full-before l (m ∷ ls) n h = h
 
-true-false : true ≡ false → ⊥
-true-false e = let z : _≡_ {A = ℕ} 0 1 = cc in omega arith
-
 -- of a text that does not end in a newline
 last-full : (s : List ℕ) → endsInNewline s ≡ false → LastFull (linesOf s)
 unfolding endsInNewline linesOf onFirst
 last-full [] e = tt
 last-full (b ∷ []) e =
-    pick-if LastFull (eqb b 10) (λ q. absurd (true-false (sym q ∙ e))) (λ q. λ z. let n = ap length z in omega arith)
+    pick-if LastFull (eqb b 10) (λ q. absurd (true≢false (sym q ∙ e))) (λ q. λ z. let n = ap length z in omega arith)
 last-full (b ∷ c ∷ s) e = go _ _ (lines-first (c ∷ s) (omega arith)) (last-full (c ∷ s) e)
   where
     go : (l : List ℕ) (ls : List (List ℕ)) → linesOf (c ∷ s) ≡ l ∷ ls → LastFull (linesOf (c ∷ s)) → LastFull (linesOf (b ∷ c ∷ s))
@@ -65,7 +62,7 @@ module _ (le : List ℕ → List ℕ → Bool) (empty-first : (l : List ℕ) →
   unfolding insertOf
   insert-full l [] n h = absurd (not-suc-le-zero n)
   insert-full l (m ∷ []) n h =
-      pick-if LastFull (le l m) (λ e. h) (λ e. λ z. true-false (sym (empty-first m) ∙ ap (λ (k : List ℕ). le k m) (sym z) ∙ e))
+      pick-if LastFull (le l m) (λ e. h) (λ e. λ z. true≢false (sym (empty-first m) ∙ ap (λ (k : List ℕ). le k m) (sym z) ∙ e))
   insert-full l (m ∷ k ∷ ls) n h =
       pick-if LastFull (le l m) (λ e. h)
       (λ e. full-before m (insertOf le l (k ∷ ls)) (let q = insert-length le l (k ∷ ls) in omega arith) (insert-full l (k ∷ ls) (omega arith) h))

@@ -1,7 +1,7 @@
 -- Sorting by insertion, for any order of lines that is reflexive, transitive, total and antisymmetric: the sorted lines are in
 -- order, they are the same lines, each as often, and no other list is both. Assumes nothing.
 use mathlib.Core.Path.{_≡_, refl, sym, ap, _∙_, subst}
-use mathlib.Core.Bool.{Bool, true, false}
+use mathlib.Core.Bool.{Bool, true, false, false≢true}
 use mathlib.Core.List.{List, [], _∷_, _++_}
 use Prim.Native.Nat.{ℕ, zero, suc, _+_, _<_, _≤_}
 use native.Mathlib.Nat.{not-suc-le-zero, le-of-suc-le-suc}
@@ -13,9 +13,6 @@ use Rattle.laws.specs.Choice.{pick, pick-yes, pick-no, pick-if}
 use Rattle.laws.specs.Kinds.{Each, all-get}
 use Rattle.manifest.specs.Sorting.{insertOf, sortOf, InOrder, sameLine, timesIn, Permuted}
 
-no : false ≡ true → ⊥
-no e = let z : _≡_ {A = ℕ} 0 1 = cc in omega arith
-
 -- ---- the test of two lines
 same-refl : (a : List ℕ) → sameLine a a ≡ true
 unfolding sameLine
@@ -25,13 +22,13 @@ same-refl (x ∷ a) = sym (pick-yes _ _ _ (eq-eqb x x refl) (sym (same-refl a)))
 same-sound : (a b : List ℕ) → sameLine a b ≡ true → a ≡ b
 unfolding sameLine
 same-sound [] [] e = refl
-same-sound [] (y ∷ b) e = absurd (no e)
-same-sound (x ∷ a) [] e = absurd (no e)
+same-sound [] (y ∷ b) e = absurd (false≢true e)
+same-sound (x ∷ a) [] e = absurd (false≢true e)
 same-sound (x ∷ a) (y ∷ b) e = go (same-sound a b) (eqb x y) refl
   where
     go : (sameLine a b ≡ true → a ≡ b) → (t : Bool) → eqb x y ≡ t → x ∷ a ≡ y ∷ b
     go r true h = let p : x ≡ y = eqb-true x y h in let q : a ≡ b = r (pick-yes _ _ false h refl ∙ e) in cc
-    go r false h = absurd (no (pick-no _ (sameLine a b) false h refl ∙ e))
+    go r false h = absurd (false≢true (pick-no _ (sameLine a b) false h refl ∙ e))
 
 -- ---- what holds of every line of a list holds of each that stands in it
 here : (x : List ℕ) (ls : List (List ℕ)) → 0 < timesIn x (x ∷ ls)
