@@ -7,6 +7,7 @@ use crate::filter::shadow_estimate;
 use crate::suppressor::suppress;
 use crate::update::Updated;
 use crate::update::adapt_shadow;
+use tau_steps::detector::DTD_ESTABLISH_BLOCKS;
 use tau_steps::detector::double_talk_block;
 use tau_steps::guard::guard;
 use tau_steps::paths::Compared;
@@ -112,7 +113,7 @@ fn judge(
     let shadow_error = a.error;
     let error = b.error;
     let d = double_talk_block(m.detector, active, near_energy, near, &estimate, valid);
-    let established = 64 <= d.dtd_blocks;
+    let established = DTD_ESTABLISH_BLOCKS <= d.dtd_blocks;
     let on = adapt & !b.diverged & active & established;
     let quiet = !d.dtd_collapsed & !d.protect_output;
     let p = b.paths;

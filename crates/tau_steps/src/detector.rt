@@ -7,7 +7,7 @@ ghost use mathlib.Core.Path.{_≡_};
 ghost use Prim.Native.Nat.{_≤_};
 ghost use Rattle.tau_steps.specs.Detector.{coherenceOf, countOf, baselineOf, collapsedOf, scaleOf, protectOf, learned, judged};
 
-const DTD_ESTABLISH_BLOCKS: u32 = 64;
+pub const DTD_ESTABLISH_BLOCKS: u32 = 64;
 
 const COHERENCE_SMOOTHING: f64 = 0.8;
 

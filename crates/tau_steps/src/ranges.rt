@@ -1,4 +1,5 @@
 // Refusal 6: the ranges of a stored state, in document 01's order.
+use crate::detector::DTD_ESTABLISH_BLOCKS;
 use crate::state::TauCanceller;
 ghost use mathlib.Core.Path.{_≡_};
 ghost use Rattle.tau_steps.specs.Ranges.{rangedOf};
@@ -21,5 +22,5 @@ pub fn in_range(s: TauCanceller) -> bool
     if 7 < s.mic.paths.rescue_streak {
         return false;
     }
-    s.mic.detector.dtd_blocks <= 64
+    s.mic.detector.dtd_blocks <= DTD_ESTABLISH_BLOCKS
 }
