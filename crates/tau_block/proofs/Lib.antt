@@ -3,3 +3,4 @@ pub mod Bounds
 pub mod Kept
 pub mod Silence
 pub mod Ran
+pub mod Resets

@@ -83,6 +83,14 @@ gathered d c e g = record {
   outcome = c .outcome;
 }
 
+-- 6. "Update of the shadow, unless flushing, diverged in 2 or 3, or rescued"
+abbrev pub updates : Bool → Filtered → Compared → Bool
+updates adapt f c = adapt && not (f .output .diverged) && not (f .shadow .diverged) && not (c .rescued)
+
+-- 7. ".. Suppressor only if flagged, `far_active` and not diverged in 3"
+abbrev pub suppresses : Bool → Bool → Filtered → Bool
+suppresses flag sounded f = flag && sounded && not (f .output .diverged)
+
 -- all of them, the update between the comparison and the suppressor
 unfoldable pub listen : ℕ → Bool → ℕ → Bool → Bool → List Float → List Float → ℕ → Bool → Mic → List Float → List Float → WroteBoth Listened
 listen parts flag head sounded active xs near n adapt m sh ou =
@@ -93,12 +101,8 @@ listen parts flag head sounded active xs near n adapt m sh ou =
     let j = compares adapt active near energy n (f .answer) m (f .shadow) (f .output) in
     let d = j .answer .detector in
     let c = j .answer .compared in
-    -- 6. "Update of the shadow, unless flushing, diverged in 2 or 3, or rescued"
-    let e = updated (adapt && not (b .diverged) && not (a .diverged) && not (c .rescued)) parts head xs (a .error) (d .«step_scale»)
-    (m .«far_power_mean») (c .paths) (b .«divergence_resets») (j .shadow) in
-    -- 7. ".. Suppressor only if flagged, `far_active` and not diverged in 3"
-    let g = delivered (flag && sounded && not (b .diverged)) (d .«protect_output») near energy n b m (e .answer .paths)
-    (e .answer .«divergence_resets») (j .output) in
+    let e = updated (updates adapt (f .answer) c) parts head xs (a .error) (d .«step_scale») (m .«far_power_mean») (c .paths) (b .«divergence_resets») (j .shadow) in
+    let g = delivered (suppresses flag sounded (f .answer)) (d .«protect_output») near energy n b m (e .answer .paths) (e .answer .«divergence_resets») (j .output) in
     record { answer = gathered d c (e .answer) (g .answer); shadow = e .buffer; output = g .buffer }
 
 -- everything after a block

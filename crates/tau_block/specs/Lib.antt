@@ -5,3 +5,4 @@ pub mod Update
 pub mod Suppressor
 pub mod Block
 pub mod Silence
+pub mod Resets

@@ -89,13 +89,17 @@ verdictOn good means p m sh =
       buffer = c .buffer;
     })
 
+-- all partitions, by the shadow's error
+abbrev pub learntBy : ℕ → ℕ → List Float → List Float → Float → List Float → List Float → Learnt
+learntBy parts head xs error scale means sh =
+    -- the error after as many zeros, which puts the correlation's lags where the gradient needs them
+    let e = spectrumOf (slid (replicate 512 zero32) error) in
+    learntTo parts head xs e (ratesOf scale means (farPowerTo xs parts)) sh parts
+
 -- "Update of the shadow, unless ..": on says whether it runs
 unfoldable pub updated : Bool → ℕ → ℕ → List Float → List Float → Float → List Float → Paths → ℕ → List Float → Wrote Updated
 updated on parts head xs error scale means p m sh =
-    -- the error after as many zeros, which puts the correlation's lags where the gradient needs them
-    let e = spectrumOf (slid (replicate 512 zero32) error) in
-    let powers = farPowerTo xs parts in
-    let l = learntTo parts head xs e (ratesOf scale means powers) sh parts in
+    let l = learntBy parts head xs error scale means sh in
     pick on
-    (verdictOn (l .good) (meansOf powers means) p m (l .weights))
+    (verdictOn (l .good) (meansOf (farPowerTo xs parts) means) p m (l .weights))
     (record { answer = record { «far_power_mean» = means; paths = p; «divergence_resets» = m }; buffer = sh })
