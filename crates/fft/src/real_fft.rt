@@ -34,7 +34,7 @@ fn unpack(points: &[f64], out: &mut [f32])
     requires { ⌜ length (now out) ≡ 512 ⌝ }
     ensures { λ _. ⌜ now (out .exit) ≡ map narrowOf (now (points .entry)) ⌝ }
 {
-    numbers::narrow_into(points, out);
+    narrow_list::narrow_into(points, out);
 }
 
 // Bin k of the real spectrum, of the half-length one.

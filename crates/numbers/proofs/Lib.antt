@@ -1,5 +1,4 @@
 pub mod Rounding
-pub mod Straight
 pub mod Tests
 pub mod Values
 pub mod Narrowed

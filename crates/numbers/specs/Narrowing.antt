@@ -1,5 +1,5 @@
 -- Narrowing, over the values of lib.Ieee. Definitions only.
-use Prim.Native.Nat.{ℕ, _+_, _-_, _*_, _/_, _%_, _^_, _≤_, _<_}
+use Prim.Native.Nat.{ℕ, _+_, _-_, _*_, _^_}
 use lib.Dec.{ltb}
 use lib.Ieee.{Float, nan, inf, fin, binary32, up, down, round}
 use lib.Ieee.Nearest.{closest}
@@ -20,9 +20,3 @@ magOf e t =
     (pick (ltb e 897) (closest (2 ^ 52 + t) (2 ^ (926 - e)))
     (pick (ltb e 1151) ((e - 897) * 2 ^ 23 + closest (2 ^ 52 + t) (2 ^ 29))
     (255 * 2 ^ 23)))
-
--- An f64's bits whose exponent's field is from 897 to 1150, so that they can be rounded straight: the f32 nearest to the number is
--- normal, or by a carry at the very top the infinity. No public contract cites it.
-pub record Plain (p : ℕ) : Type 0 where
-  pub low : 897 ≤ p % 2 ^ 63 / 2 ^ 52
-  pub high : p % 2 ^ 63 / 2 ^ 52 < 1151

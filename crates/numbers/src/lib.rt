@@ -2,7 +2,6 @@
 // of IEEE 754 (lib.Ieee). No public function has a `requires`. A name without a width is of `f64`.
 mod bits;
 mod finite;
-mod narrow_list;
 mod narrowing;
 mod order;
 
@@ -13,7 +12,7 @@ pub use bits::to_bits32;
 pub use finite::finite_or_zero;
 pub use finite::is_finite;
 pub use finite::is_finite32;
-pub use narrow_list::narrow_into;
+pub use narrowing::drop_low;
 pub use narrowing::narrow;
 pub use narrowing::narrow_bits;
 pub use narrowing::widen;

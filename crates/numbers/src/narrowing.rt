@@ -1,6 +1,6 @@
 // From f32 to f64, which is exact, and from f64 to f32, which rounds once, from the bits.
 ghost use mathlib.Core.Path.{_≡_};
-ghost use Prim.Native.Nat.{_<_, _^_};
+ghost use Prim.Native.Nat.{_%_, _<_, _^_};
 ghost use lib.Ieee.{binary32, toBits};
 ghost use lib.Ieee.Nearest.{closest};
 ghost use Rattle.numbers.specs.Narrowing.{narrowOf, magOf};
@@ -58,13 +58,14 @@ fn magnitude(exponent: u64, digits: u64) -> u64
     0x7f80_0000
 }
 
-// m / 2^29 to the nearest whole number, and at a tie to the even one. No branch: on sound, which way
-// it rounds is a coin's throw, and a processor that guesses wrong half the time takes three times as long.
-pub(crate) fn drop_low(m: u64) -> u64
-    requires { ⌜ m < 2 ^ 63 ⌝ }
-    ensures { λ r. ⌜ r ≡ closest m (2 ^ 29) ⌝ }
+// m without its top bit, over 2^29, to the nearest whole number, and at a tie to the even one. The top bit of an f64's bits is the
+// sign's; with it off no sum is too large. No branch: on sound, which way it rounds is a coin's throw, and a processor that guesses
+// wrong half the time takes three times as long.
+pub fn drop_low(m: u64) -> u64
+    ensures { λ r. ⌜ r ≡ closest (m % 2 ^ 63) (2 ^ 29) ⌝ }
 {
-    (m + 0xfff_ffff + m / 0x2000_0000 % 2) / 0x2000_0000
+    let size = m % 0x8000_0000_0000_0000;
+    (size + 0xfff_ffff + size / 0x2000_0000 % 2) / 0x2000_0000
 }
 
 // m / unit to the nearest whole number, and at a tie to the even one. Only for subnormal results, which are rare.

@@ -4,9 +4,10 @@
 use mathlib.Core.Path.{_≡_}
 use mathlib.Core.Bool.{Bool}
 use mathlib.Core.List.{List}
-use Prim.Native.Nat.{ℕ, _+_, _*_, _/_, _%_}
+use Prim.Native.Nat.{ℕ, _+_, _*_, _/_, _%_, _^_}
 use lib.Dec.{leb}
 use lib.Ieee.{Float, nan, binary32, binary64, ofBits, toBits}
+use lib.Ieee.Nearest.{closest}
 use lib.ListN.{length, getD}
 use Rattle.laws.specs.Choice.{pick}
 use Rattle.laws.specs.Loops.{over}
@@ -32,7 +33,7 @@ use Rattle.manifest.specs.Sorted.{answerOf}
 abbrev pub One : {A : Type 0} → A → Type 0
 One {A} d = (x y : A) → x ≡ d → y ≡ d → x ≡ y
 
--- numbers: x, y, z are numbers, b a pattern, xs and out lists
+-- numbers, narrow_list: x, y, z are numbers, b a pattern, xs and out lists
 abbrev pub Numbers : Type 0
 Numbers = (x y z : Float) (b : ℕ) (xs out : List Float)
     → One (absOf x)
@@ -44,6 +45,7 @@ Numbers = (x y z : Float) (b : ℕ) (xs out : List Float)
     × One (narrowOf x)
     × One (over (length xs) (λ k _. narrowOf (getD xs k nan)) out)
     × One (toBits binary32 (narrowOf x))
+    × One (closest (b % 2 ^ 63) (2 ^ 29))
     × One (ofBits binary64 b)
     × One (ofBits binary32 b)
     × One (toBits binary64 x)

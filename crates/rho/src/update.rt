@@ -92,7 +92,7 @@ fn steps_below(scale: f64, history: &[f32], upper: usize) -> [f32; 32]
 {
     let products = products_below(scale, history, upper);
     let mut steps = [0.0f32; 32];
-    numbers::narrow_into(&products, &mut steps);
+    narrow_list::narrow_into(&products, &mut steps);
     steps
 }
 

@@ -1,6 +1,6 @@
 -- `numbers::magnitude` meets its contract: each way out is a case of `magOf`. Assumes nothing.
 use mathlib.Core.Path.{_≡_, sym, ap, _∙_, subst}
-use Prim.Native.Nat.{ℕ, _+_, _-_, _*_, _^_, _≤_, _<_}
+use Prim.Native.Nat.{ℕ, _+_, _-_, _*_, _%_, _^_, _≤_, _<_}
 use native.Mathlib.Omega.{arith}
 use lib.Dec.{lit<, lit≤}
 use lib.Pow.{pow-pos}
@@ -9,6 +9,10 @@ use Rattle.numbers.proofs.Rounding.{closest-le, unit-is, mag-tiny, mag-
 use borrow.Author.Needs.{needs}
 use Rattle.numbers.proofs.narrowing.magnitude.Statement.{statement}
 use Rattle.numbers.proofs.narrowing.magnitude.Tie as tie
+
+-- a number of 53 digits has no top bit to lose
+whole : (m : ℕ) → m < 2 ^ 53 → closest (m % 2 ^ 63) (2 ^ 29) ≡ closest m (2 ^ 29)
+whole m l = let e : m % 2 ^ 63 ≡ m = omega arith in ap (λ (z : ℕ). closest z (2 ^ 29)) e
 
 returns : tie.Need-returns
 returns c = (sym (mag-tiny (c .before .args .exponent) (c .before .args .digits) (c .if1 .taken)), lit< tt)
@@ -51,8 +55,9 @@ add-result c =
     let t = c .before .before .before .before .args .digits in
     let k : e < 1151 = c .before .if3 .taken in
     let m : 2 ^ 52 + t < 2 ^ 53 = omega arith in
+    let q = c .drop-low .ensures ∙ whole (2 ^ 52 + t) m in
     let b = closest-le (2 ^ 52 + t) 29 m (lit≤ tt) in
-    omega (arith, k, b, c .drop-low .ensures)
+    omega (arith, k, b, q)
 
 returns-3 : tie.Need-returns-3
 returns-3 c =
@@ -61,7 +66,7 @@ returns-3 c =
     let l : 897 ≤ e = c .before .before .if2 .left in
     let k : e < 1151 = c .before .if3 .taken in
     let m : 2 ^ 52 + t < 2 ^ 53 = omega arith in
-    let q : c .drop-low .result ≡ closest (2 ^ 52 + t) (2 ^ 29) = c .drop-low .ensures in
+    let q : c .drop-low .result ≡ closest (2 ^ 52 + t) (2 ^ 29) = c .drop-low .ensures ∙ whole (2 ^ 52 + t) m in
     let b = closest-le (2 ^ 52 + t) 29 m (lit≤ tt) in
     (ap (λ (z : ℕ). (e - 897) * 2 ^ 23 + z) q ∙ sym (mag-mid e t l k), omega (arith, k, b, q))
 

@@ -1,4 +1,4 @@
--- `numbers::patterns` meets its contract: a number's bits, a NaN's too, are read as that number. Assumes nothing.
+-- `narrow_list::patterns` meets its contract: a number's bits, a NaN's too, are read as that number. Assumes nothing.
 use mathlib.Core.Path.{_≡_, refl, ap, _∙_}
 use mathlib.Core.List.{List}
 use Prim.Native.Nat.{ℕ, _+_, _-_, _≤_, _<_}
@@ -9,8 +9,8 @@ use lib.Ieee.{Float, nan, binary64, fits, ofBits, toBits}
 use lib.Ieee.Bits.{ofBits-toBits}
 use lib.ListN.{length, getD}
 use Rattle.laws.specs.Loops.{over, over-none, over-next, over-at}
-use Rattle.numbers.proofs.narrow_list.patterns.Statement.{statement}
-use Rattle.numbers.proofs.narrow_list.patterns.Tie as tie
+use Rattle.narrow_list.proofs.patterns.Statement.{statement}
+use Rattle.narrow_list.proofs.patterns.Tie as tie
 
 module _ (xs : List Float) (at : ℕ) (fit : (i : ℕ) → T (fits binary64 (getD xs i nan))) where
   -- the loop at its end: all sixteen places are filled

@@ -1,9 +1,9 @@
--- `numbers::is_plain` meets its contract. Assumes nothing.
+-- `narrow_list::is_plain` meets its contract. Assumes nothing.
 use mathlib.Core.Path.{sym}
 use mathlib.Core.Bool.{true≢false}
 use borrow.Author.Needs.{needs}
-use Rattle.numbers.proofs.narrow_list.is_plain.Statement.{statement}
-use Rattle.numbers.proofs.narrow_list.is_plain.Tie as tie
+use Rattle.narrow_list.proofs.is_plain.Statement.{statement}
+use Rattle.narrow_list.proofs.is_plain.Tie as tie
 
 pub is-plain-spec : {M : Type 1} → statement M
 is-plain-spec =

@@ -1,10 +1,10 @@
--- `numbers::narrow_group` meets its contract: what is rounded straight is read from the patterns, whose numbers are those of `xs`. Assumes nothing.
+-- `narrow_list::narrow_group` meets its contract: what is rounded straight is read from the patterns, whose numbers are those of `xs`. Assumes nothing.
 use mathlib.Core.Path.{ap, _∙_}
 use borrow.Author.Needs.{needs}
 use Rattle.laws.specs.Readings.{overAt-cong}
 use Rattle.numbers.specs.Narrowing.{narrowOf}
-use Rattle.numbers.proofs.narrow_list.narrow_group.Statement.{statement}
-use Rattle.numbers.proofs.narrow_list.narrow_group.Tie as tie
+use Rattle.narrow_list.proofs.narrow_group.Statement.{statement}
+use Rattle.narrow_list.proofs.narrow_group.Tie as tie
 
 pub narrow-group-spec : {M : Type 1} → statement M
 narrow-group-spec =

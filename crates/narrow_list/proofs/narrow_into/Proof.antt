@@ -1,4 +1,4 @@
--- `numbers::narrow_into` meets its contract: a group is sixteen places more of one `over`, and what is left goes to the end of the shorter list. Assumes nothing.
+-- `narrow_list::narrow_into` meets its contract: a group is sixteen places more of one `over`, and what is left goes to the end of the shorter list. Assumes nothing.
 use mathlib.Core.Path.{_≡_, sym, ap, _∙_}
 use mathlib.Core.List.{List}
 use Prim.Native.Nat.{ℕ, _+_, _-_, _≤_, min}
@@ -8,9 +8,9 @@ use lib.Ieee.{Float, nan}
 use lib.ListN.{length, getD}
 use Rattle.laws.specs.Loops.{over, overAt, over-none}
 use Rattle.laws.specs.Readings.{over-split, over-least}
 use Rattle.numbers.specs.Narrowing.{narrowOf}
-use Rattle.numbers.proofs.narrow_list.narrow_into.Statement.{statement}
-use Rattle.numbers.proofs.narrow_list.narrow_into.Tie as tie
+use Rattle.narrow_list.proofs.narrow_into.Statement.{statement}
+use Rattle.narrow_list.proofs.narrow_into.Tie as tie
 
 module _ (xs d : List Float) where
   abbrev narrowed : ℕ → Float → Float

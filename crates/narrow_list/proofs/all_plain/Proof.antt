@@ -1,4 +1,4 @@
--- `numbers::all_plain` meets its contract: while the flag stands, every pattern passed is plain. Assumes nothing.
+-- `narrow_list::all_plain` meets its contract: while the flag stands, every pattern passed is plain. Assumes nothing.
 use mathlib.Core.Path.{_≡_}
 use mathlib.Core.Bool.{true}
 use Prim.Native.Nat.{ℕ, _-_, _≤_, _<_}
@@ -7,9 +7,9 @@ use borrow.Author.Count.{below-more}
 use borrow.Author.Needs.{needs}
 use lib.ListN.{getD}
 use Rattle.laws.specs.Choice.{both}
-use Rattle.numbers.specs.Narrowing.{Plain}
-use Rattle.numbers.proofs.narrow_list.all_plain.Statement.{statement}
-use Rattle.numbers.proofs.narrow_list.all_plain.Tie as tie
+use Rattle.narrow_list.specs.Plain.{Plain}
+use Rattle.narrow_list.proofs.all_plain.Statement.{statement}
+use Rattle.narrow_list.proofs.all_plain.Tie as tie
 
 abbrev Inv-loop : tie.InvT-loop
 Inv-loop b plain₀ k₀ plain k = (k ≤ 16) × (plain ≡ true → (j : ℕ) → j < k → Plain (getD b j 0))

@@ -7,9 +7,10 @@ use lib.Dec.{T}
 use lib.Ieee.{binary32, binary64, isNan, ofBits, toBits, nanBits}
 use lib.Ieee.Bits.{ofBits-fits, toBits-ofBits, toBits-lt, nanBits-is}
 use lib.Ieee.Nearest.{closest}
-use Rattle.numbers.specs.Narrowing.{narrowOf, magOf, Plain}
+use Rattle.numbers.specs.Narrowing.{narrowOf, magOf}
 use Rattle.numbers.proofs.Rounding.{narrow-bits-is, mag-mid, drop-low-is}
 use Rattle.numbers.proofs.Tests.{bits-no-nan, narrow-fits, narrow-back, narrow-no-nan}
+use Rattle.narrow_list.specs.Plain.{Plain}
 
 -- ---- whole steps of the exponent have no part in the rounding
 
@@ -32,14 +33,14 @@ steps d m =
 -- ---- what `rounded` computes
 
 abbrev pub straight : ℕ → ℕ
-straight p = p / 2 ^ 63 * 2 ^ 31 + closest (p % 2 ^ 63 - 0x3800_0000_0000_0000) (2 ^ 29)
+straight p = p / 2 ^ 63 * 2 ^ 31 + closest ((p - 0x3800_0000_0000_0000) % 2 ^ 63) (2 ^ 29)
 
 module _ (p : ℕ) (h : Plain p) where
-  mag : closest (p % 2 ^ 63 - 0x3800_0000_0000_0000) (2 ^ 29) ≡ magOf (p % 2 ^ 63 / 2 ^ 52) (p % 2 ^ 52)
+  mag : closest ((p - 0x3800_0000_0000_0000) % 2 ^ 63) (2 ^ 29) ≡ magOf (p % 2 ^ 63 / 2 ^ 52) (p % 2 ^ 52)
   mag =
       let e = p % 2 ^ 63 / 2 ^ 52 in
       let t = p % 2 ^ 52 in
-      let s : p % 2 ^ 63 - 0x3800_0000_0000_0000 ≡ (e - 897) * 2 ^ 52 + (2 ^ 52 + t) = omega arith in
+      let s : (p - 0x3800_0000_0000_0000) % 2 ^ 63 ≡ (e - 897) * 2 ^ 52 + (2 ^ 52 + t) = omega arith in
       ap (λ (z : ℕ). closest z (2 ^ 29)) s ∙ steps (e - 897) (2 ^ 52 + t) ∙ sym (mag-mid e t (h .low) (h .high))
 
   no-nan : T (not (isNan (ofBits binary64 p)))

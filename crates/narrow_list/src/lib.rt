@@ -1,16 +1,17 @@
 // Narrowing of a list. Sixteen numbers at a time are tested and then rounded on their bits with no branch on any of them, which the
 // compiler turns into operations on several numbers at once. A group in which one number cannot be rounded so (a zero, a NaN, a
 // result that is subnormal or too large) is narrowed number by number. With groups of eight or thirty-two it took longer.
-use crate::bits::to_bits;
-use crate::narrowing::drop_low;
-use crate::narrowing::narrow;
+use numbers::drop_low;
+use numbers::narrow;
+use numbers::to_bits;
 ghost use mathlib.Core.Path.{_≡_};
 ghost use mathlib.Core.Bool.{true};
 ghost use Prim.Native.Nat.{ℕ, _+_, _≤_, _<_, min};
 ghost use lib.Ieee.{nan, binary64, ofBits};
 ghost use lib.ListN.{length, getD};
 ghost use Rattle.laws.specs.Loops.{over, overAt};
-ghost use Rattle.numbers.specs.Narrowing.{narrowOf, Plain};
+ghost use Rattle.numbers.specs.Narrowing.{narrowOf};
+ghost use Rattle.narrow_list.specs.Plain.{Plain};
 
 // Narrows xs number by number into the first places of out, as many as both have.
 pub fn narrow_into(xs: &[f64], out: &mut [f32])
@@ -102,8 +103,7 @@ fn rounded(p: u64) -> f32
     ensures { λ r. ⌜ r ≡ narrowOf (ofBits binary64 p) ⌝ }
 {
     let sign = p / 0x8000_0000_0000_0000 * 0x8000_0000;
-    let size = p % 0x8000_0000_0000_0000;
-    f32::from_bits((sign + drop_low(size - 0x3800_0000_0000_0000)) as u32)
+    f32::from_bits((sign + drop_low(p - 0x3800_0000_0000_0000)) as u32)
 }
 
 // Also for what is left of a list after its groups.

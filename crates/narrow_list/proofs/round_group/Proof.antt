@@ -1,4 +1,4 @@
--- `numbers::round_group` meets its contract. Assumes nothing.
+-- `narrow_list::round_group` meets its contract. Assumes nothing.
 use mathlib.Core.Path.{_≡_}
 use Prim.Native.Nat.{_-_, _≤_}
 use native.Mathlib.Omega.{arith}
@@ -6,9 +6,9 @@ use borrow.Author.Needs.{needs}
 use lib.Ieee.{binary64, ofBits}
 use lib.ListN.{length, getD, length-set}
 use Rattle.laws.specs.Loops.{loops, overAt, overAt-turn}
 use Rattle.numbers.specs.Narrowing.{narrowOf}
-use Rattle.numbers.proofs.narrow_list.round_group.Statement.{statement}
-use Rattle.numbers.proofs.narrow_list.round_group.Tie as tie
+use Rattle.narrow_list.proofs.round_group.Statement.{statement}
+use Rattle.narrow_list.proofs.round_group.Tie as tie
 
 abbrev Inv-loop : tie.InvT-loop
 Inv-loop b at out₀ k₀ out k = (length out ≡ length out₀) × (k ≤ 16) × (out ≡ overAt at k (λ j x. narrowOf (ofBits binary64 (getD b j 0))) out₀)

@@ -1,9 +1,9 @@
--- `numbers::rounded` meets its contract: `straight-is` says what its bits are read as. Assumes nothing.
+-- `narrow_list::rounded` meets its contract: `straight-is` says what its bits are read as. Assumes nothing.
 use native.Mathlib.Omega.{arith}
 use borrow.Author.Needs.{needs}
-use Rattle.numbers.proofs.Straight.{straight-lt, straight-no-nan, straight-is}
-use Rattle.numbers.proofs.narrow_list.rounded.Statement.{statement}
-use Rattle.numbers.proofs.narrow_list.rounded.Tie as tie
+use Rattle.narrow_list.proofs.Straight.{straight-lt, straight-no-nan, straight-is}
+use Rattle.narrow_list.proofs.rounded.Statement.{statement}
+use Rattle.narrow_list.proofs.rounded.Tie as tie
 
 pub rounded-spec : {M : Type 1} → statement M
 rounded-spec =
