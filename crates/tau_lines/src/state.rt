@@ -15,11 +15,6 @@ pub fn fresh() -> TauCanceller {
     let near_carry = [0.0f32; 256];
     let far_carry = [0.0f32; 256];
     let window = [0.0f32; 512];
-    let far_power_mean = [0.0f64; 257];
-    let echo_power = [0.0f64; 257];
-    let error_power = [0.0f64; 257];
-    let gain = [1.0f64; 257];
-    let error_window = [0.0f32; 512];
     TauCanceller {
         partitions: 1,
         suppress: false,
@@ -32,41 +27,61 @@ pub fn fresh() -> TauCanceller {
             far_active: false,
             far_energy_peak: 0.0,
         },
-        mic: Mic {
-            detector: Detector {
-                double_talk: false,
-                dtd_collapsed: false,
-                protect_output: false,
-                dtd_blocks: 0,
-                dtd_baseline: 0.0,
-                dtd_deviation: 0.0,
-                coherence_smooth: 0.0,
-                step_scale: 1.0,
-            },
-            paths: Paths {
-                shadow_error_power: 0.0,
-                output_error_power: 0.0,
-                quiet_streak: 0,
-                rescue_streak: 0,
-            },
-            far_power_mean,
-            suppressor: Suppressor {
-                echo_power,
-                error_power,
-                gain,
-                error_window,
-            },
-            guard: Guard {
-                divergence_near_power: 0.0,
-                divergence_out_power: 0.0,
-            },
-            powers: Powers {
-                near_power: 0.0,
-                residual_power: 0.0,
-            },
-            transfers: 0,
-            divergence_resets: 0,
+        mic: fresh_mic(),
+    }
+}
+
+// The microphone's part of that.
+fn fresh_mic() -> Mic {
+    let far_power_mean = [0.0f64; 257];
+    Mic {
+        detector: fresh_detector(),
+        paths: Paths {
+            shadow_error_power: 0.0,
+            output_error_power: 0.0,
+            quiet_streak: 0,
+            rescue_streak: 0,
         },
+        far_power_mean,
+        suppressor: fresh_suppressor(),
+        guard: Guard {
+            divergence_near_power: 0.0,
+            divergence_out_power: 0.0,
+        },
+        powers: Powers {
+            near_power: 0.0,
+            residual_power: 0.0,
+        },
+        transfers: 0,
+        divergence_resets: 0,
+    }
+}
+
+// The microphone's detector of double talk, which has heard no block.
+fn fresh_detector() -> Detector {
+    Detector {
+        double_talk: false,
+        dtd_collapsed: false,
+        protect_output: false,
+        dtd_blocks: 0,
+        dtd_baseline: 0.0,
+        dtd_deviation: 0.0,
+        coherence_smooth: 0.0,
+        step_scale: 1.0,
+    }
+}
+
+// The microphone's suppressor: no power, no samples, and a gain of one in each bin.
+fn fresh_suppressor() -> Suppressor {
+    let echo_power = [0.0f64; 257];
+    let error_power = [0.0f64; 257];
+    let gain = [1.0f64; 257];
+    let error_window = [0.0f32; 512];
+    Suppressor {
+        echo_power,
+        error_power,
+        gain,
+        error_window,
     }
 }
 
@@ -160,25 +175,26 @@ pub fn numbers_of(
     output: u64,
     spectra: u64,
 ) -> [u64; 31] {
-    let near_carry = s.near_carry;
-    let far_carry = s.far_carry;
+    let scalars = scalars_of(s);
+    let hashes = hashes_of(s);
+    let lent = [shadow, output, spectra];
+    let mut fields = [0u64; 31];
+    put(&first, 0, &mut fields);
+    put(&scalars, 3, &mut fields);
+    put(&hashes, 20, &mut fields);
+    put(&lent, 28, &mut fields);
+    fields
+}
+
+// Fields 11 to 27: what `set` reads.
+fn scalars_of(s: TauCanceller) -> [u64; 17] {
     let far = s.far;
-    let window = far.window;
     let mic = s.mic;
-    let far_power_mean = mic.far_power_mean;
     let d = mic.detector;
     let paths = mic.paths;
     let guard = mic.guard;
     let powers = mic.powers;
-    let suppressor = mic.suppressor;
-    let echo_power = suppressor.echo_power;
-    let error_power = suppressor.error_power;
-    let gain = suppressor.gain;
-    let error_window = suppressor.error_window;
     [
-        first[0],
-        first[1],
-        first[2],
         halves(s.partitions as u64, s.carried as u64),
         halves(far.head as u64, flags_of(s.suppress, far.far_active, d)),
         numbers::to_bits(far.far_energy_peak),
@@ -196,6 +212,23 @@ pub fn numbers_of(
         numbers::to_bits(powers.residual_power),
         mic.transfers,
         mic.divergence_resets,
+    ]
+}
+
+// Fields 28 to 35: the hashes of the state's arrays.
+fn hashes_of(s: TauCanceller) -> [u64; 8] {
+    let near_carry = s.near_carry;
+    let far_carry = s.far_carry;
+    let far = s.far;
+    let window = far.window;
+    let mic = s.mic;
+    let far_power_mean = mic.far_power_mean;
+    let suppressor = mic.suppressor;
+    let echo_power = suppressor.echo_power;
+    let error_power = suppressor.error_power;
+    let gain = suppressor.gain;
+    let error_window = suppressor.error_window;
+    [
         hash_of_block(near_carry),
         hash_of_block(far_carry),
         hash_of_window(window),
@@ -204,10 +237,18 @@ pub fn numbers_of(
         hash_of_bins(error_power),
         hash_of_bins(gain),
         hash_of_window(error_window),
-        shadow,
-        output,
-        spectra,
     ]
+}
+
+// The numbers of a part, in their order from `at` on, as far as there are places.
+fn put(part: &[u64], at: usize, fields: &mut [u64; 31]) {
+    let mut i = 0usize;
+    let mut k = at;
+    while k < 31 && i < part.len() {
+        fields[k] = part[i];
+        i += 1;
+        k += 1;
+    }
 }
 
 fn hash_of_block(samples: [f32; 256]) -> u64 {
