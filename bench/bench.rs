@@ -6,19 +6,17 @@
 //! has a ratio, that of its own medians, and of these the table has the median, the 10th and the 90th
 //! percentile.
 
+mod aspeyruni;
 #[allow(dead_code)] // the Rust's text, whole
 mod canceller;
 #[allow(dead_code)]
 mod config;
 mod error;
 mod fft;
-mod host;
 mod house_detector;
 mod inputs;
 mod kinds;
 mod reference;
-mod rho_calls;
-mod rho_host;
 mod rust_rho;
 #[allow(dead_code)]
 mod rust_tau;
@@ -27,12 +25,11 @@ mod taken;
 #[allow(dead_code)]
 mod tau_calls;
 #[allow(dead_code)]
-mod tau_host;
-#[allow(dead_code)]
 mod tau_lines;
 #[allow(dead_code)]
 mod tau_reference;
 
+use aspeyruni::{rho, tau};
 use canceller::EchoCanceller;
 use fft::{Complex, ComplexFft, RealFft};
 use inputs::{turned, Noise};
@@ -107,7 +104,7 @@ fn forward() {
             black_box(&bins);
         },
         |input| {
-            host::forward(input, &mut out);
+            aspeyruni::forward(input, &mut out);
             black_box(&out);
         },
     );
@@ -136,7 +133,7 @@ fn inverse() {
             black_box(&samples);
         },
         |(_, flat)| {
-            host::inverse(flat, &mut out);
+            aspeyruni::inverse(flat, &mut out);
             black_box(&out);
         },
     );
@@ -158,7 +155,7 @@ fn complex_forward() {
             black_box(&points);
         },
         |(_, flat)| {
-            host::complex_forward(flat);
+            aspeyruni::complex_forward(flat);
             black_box(&flat);
         },
     );
@@ -182,7 +179,7 @@ fn narrow() {
         },
         |(from, to)| {
             for (x, y) in from.iter().zip(to.iter_mut()) {
-                *y = host::narrow(*x);
+                *y = aspeyruni::narrow(*x);
             }
             black_box(&to);
         },
@@ -206,7 +203,7 @@ fn rho(name: &str, tail: u16, near: Kind) {
         black_box(&delivered);
     };
     let mut port = |[near, far]: &mut [Vec<f32>; 2]| {
-        state = rho_host::process(state, &mut weights, &mut history, near, far, &mut out).state;
+        state = rho::process(state, &mut weights, &mut history, near, far, &mut out).state;
         black_box(&out);
     };
     // until the history is full, and the freeze over that its first samples may bring
@@ -230,14 +227,14 @@ fn tau(name: &str, partitions: usize, suppress: bool) {
     };
     let mut engine = Continued::created(partitions, suppress);
     let mut buffers = [0; 3].map(|_| vec![0.0; SPECTRUM * partitions]);
-    let mut state = tau_host::create(partitions, suppress, buffers.each_mut().map(|b| &mut b[..])).state;
+    let mut state = tau::create(partitions, suppress, buffers.each_mut().map(|b| &mut b[..])).state;
     let mut out = [0.0; BLOCK];
     let mut rust = |[near, far]: &mut [Vec<f32>; 2]| {
         black_box(&engine.process(near, far));
     };
     let mut port = |[near, far]: &mut [Vec<f32>; 2]| {
         let lent = buffers.each_mut().map(|b| &mut b[..]);
-        state = tau_host::process(state, lent, near, far, &mut out).state;
+        state = tau::process(state, lent, near, far, &mut out).state;
         black_box(&out);
     };
     // until the detector is established, and the output has moved

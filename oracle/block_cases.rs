@@ -1,6 +1,7 @@
 //! Blocks of Tau in a row, with what the Rust, completed by document 01 (oracle/rust), gives after each. `oracle/lists` writes them to
 //! crates/block_cases/stdin, which the program `block_cases` replays. Its src/main.rt says what the fields of a line are.
 
+mod aspeyruni;
 mod branches;
 #[allow(dead_code)] // the Rust's text, whole
 mod canceller;
@@ -19,21 +20,14 @@ mod tau_calls;
 mod tau_lines;
 mod tau_reference;
 
+use aspeyruni::tau::*;
 use branches::Counts;
-use inputs::{bits, halves, hash32, Random};
+use inputs::{bits, hash32, line, Random};
 use kinds::*;
-use recipe::Recipe;
-use tau_calls::*;
+use recipe::Sounds;
+use tau_calls::Outcome;
 use tau_lines::*;
 use tau_reference::{Seen, MOST_PARTITIONS};
-
-/// What near and far of a block are: noise each, and the echo's gain, which near has of far besides. No gain where it is +0.0.
-#[derive(Clone, Copy)]
-struct Sounds {
-    near: Recipe,
-    far: Recipe,
-    gain: f32,
-}
 
 /// What a line comes to but for the state and the buffers.
 struct Got {
@@ -78,11 +72,7 @@ impl List {
         let buffers = [&self.shadow, &self.output, &self.spectra];
         let kept = tau_lines::fields(&self.state, buffers.map(|buffer| &buffer[..n]));
         let fields = given.iter().chain(&answered).chain(&kept);
-        self.text.push(letter);
-        for field in fields {
-            self.text += &format!(" {field:016x}");
-        }
-        self.text.push('\n');
+        self.text += &line(letter, fields);
     }
 
     /// All as creation leaves it, but for the numbers of the state that are in no array.
@@ -136,8 +126,9 @@ impl List {
         let mut got = Got::nothing();
         let mut next = sounds;
         for _ in 0..count {
-            let (near, far) = next.block(valid);
-            next = next.after();
+            let [near, far] = block(next, valid);
+            // the next block's seeds are the hashes of this one's noise
+            next = next.seeded(|recipe| hash32(&recipe.samples(BLOCK)));
             let buffers = [&mut self.shadow, &mut self.output, &mut self.spectra];
             let buffers = buffers.map(|buffer| &mut buffer[..n]);
             let (before, adapt) = (self.state, letter == 'b');
@@ -156,18 +147,11 @@ impl List {
                 block: answer.block,
             };
         }
-        let ([a, b, c], [d, e, f]) = (sounds.near.fields(), sounds.far.fields());
-        let size = halves([valid, count]);
-        let gain = sounds.gain.to_bits().into();
-        self.line(letter, [a, b, c, d, e, f, size, gain], got);
+        self.line(letter, sounds.fields([valid, count]), got);
     }
 
     fn noise(&mut self, near: Kind, far: Kind, gain: f32) -> Sounds {
-        Sounds {
-            near: Recipe::noise(self.seed(), near),
-            far: Recipe::noise(self.seed(), far),
-            gain,
-        }
+        Sounds::noise(&mut self.random, near, far, gain)
     }
 
     fn blocks(&mut self, near: Kind, far: Kind, gain: f32, count: usize) {
@@ -188,33 +172,12 @@ impl List {
     }
 }
 
-impl Sounds {
-    /// Of the samples from `valid` on, which a flush pads, all are 0.0.
-    fn block(self, valid: usize) -> ([f32; BLOCK], [f32; BLOCK]) {
-        let mut near: [f32; BLOCK] = self.near.samples(BLOCK).try_into().unwrap();
-        let mut far: [f32; BLOCK] = self.far.samples(BLOCK).try_into().unwrap();
-        if self.gain.to_bits() != 0 {
-            for (n, f) in near.iter_mut().zip(&far) {
-                *n += self.gain * f;
-            }
-        }
-        near[valid..].fill(0.0);
-        far[valid..].fill(0.0);
-        (near, far)
-    }
-
-    /// Those of the next block: the hashes of this block's noise are its seeds.
-    fn after(self) -> Sounds {
-        let next = |recipe: Recipe| Recipe {
-            seed: hash32(&recipe.samples(BLOCK)),
-            ..recipe
-        };
-        Sounds {
-            near: next(self.near),
-            far: next(self.far),
-            gain: self.gain,
-        }
-    }
+/// Of the samples from `valid` on, which a flush pads, all are 0.0.
+fn block(sounds: Sounds, valid: usize) -> [[f32; BLOCK]; 2] {
+    sounds.samples(BLOCK).map(|mut samples| {
+        samples[valid..].fill(0.0);
+        samples.try_into().unwrap()
+    })
 }
 
 fn main() {
@@ -468,27 +431,13 @@ fn numbers(list: &mut List) {
         let mut s = established(1 + turn % 3);
         s.suppress = list.random.below(4) > 0;
         s.far.head = list.random.below(s.partitions);
-        s.far.far_active = list.random.below(2) > 0;
-        s.mic.detector.double_talk = list.random.below(2) > 0;
-        s.mic.detector.dtd_collapsed = list.random.below(2) > 0;
-        s.mic.detector.protect_output = list.random.below(2) > 0;
+        for flag in flags(&mut s) {
+            *flag = list.random.below(2) > 0;
+        }
         s.mic.detector.dtd_blocks = list.random.one_of(&[0, 62, 63, 64, 64]);
         s.mic.paths.quiet_streak = list.random.one_of(&[0, 4, 5, 6]);
         s.mic.paths.rescue_streak = list.random.one_of(&[0, 1, 6, 7]);
-        let m = &mut s.mic;
-        for number in [
-            &mut s.far.far_energy_peak,
-            &mut m.detector.dtd_baseline,
-            &mut m.detector.dtd_deviation,
-            &mut m.detector.coherence_smooth,
-            &mut m.detector.step_scale,
-            &mut m.paths.shadow_error_power,
-            &mut m.paths.output_error_power,
-            &mut m.guard.divergence_near_power,
-            &mut m.guard.divergence_out_power,
-            &mut m.powers.near_power,
-            &mut m.powers.residual_power,
-        ] {
+        for number in floats(&mut s) {
             if list.random.below(3) == 0 {
                 *number = list.random.one_of(&odd);
             }

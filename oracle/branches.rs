@@ -2,8 +2,9 @@
 
 #![allow(dead_code)] // a driver uses a part
 
+use crate::aspeyruni::tau::TauCanceller;
 use crate::taken::Taken;
-use crate::tau_calls::{Outcome, TauCanceller};
+use crate::tau_calls::Outcome;
 use crate::tau_reference::Seen;
 
 /// All that a list has to reach, in the order of the block's steps.

@@ -2,6 +2,7 @@
 //! tau_reference.rs), makes of them with four partitions and suppression. `oracle/lists` has it write the files: capture WORD, where WORD
 //! is `long` or `three`, and then `pairs` or `samples`.
 
+mod aspeyruni;
 #[allow(dead_code)] // the Rust's text, whole
 mod canceller;
 mod config;

@@ -16,7 +16,7 @@ mod inputs;
 mod reference;
 
 use fft::{read_det_cos, read_det_sin, read_recombination};
-use inputs::{bits, hash, turned, Noise, DIGITS, SIGN, SIZES};
+use inputs::{bits, hash, line, turned, Noise, DIGITS, SIGN, SIZES};
 use reference::{Reference, DONE, POINTS, SAMPLES, SPECTRUM};
 use std::f64::consts::PI;
 
@@ -78,11 +78,7 @@ impl List {
     }
 
     fn line(&mut self, letter: char, fields: [u64; 12]) {
-        self.text.push(letter);
-        for field in fields {
-            self.text += &format!(" {field:016x}");
-        }
-        self.text.push('\n');
+        self.text += &line(letter, &fields);
     }
 
     /// A transform's case. Of what it leaves in its buffer, the numbers at `at` and the next are shown.

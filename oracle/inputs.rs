@@ -59,6 +59,16 @@ impl Random {
     pub fn one_of<T: Copy>(&mut self, some: &[T]) -> T {
         some[self.below(some.len())]
     }
+
+    /// Makes one in so many samples one that is not finite.
+    pub fn strew<'a>(&mut self, samples: impl Iterator<Item = &'a mut f32>, one_in: u64) {
+        for x in samples {
+            let word = self.word();
+            if word % one_in == 0 {
+                *x = f32::from_bits((word >> 32) as u32 | 0xff << 23);
+            }
+        }
+    }
 }
 
 /// The word after this one, by Marsaglia's xorshift. All words but 0 lie on one ring, and 0 stays.
@@ -100,4 +110,10 @@ const HASH: u64 = 0x9e37_79b9_7f4a_7c15;
 
 pub fn halves([high, low]: [usize; 2]) -> u64 {
     (high as u64) << 32 | low as u64
+}
+
+/// A line of a list.
+pub fn line<'a>(letter: char, fields: impl IntoIterator<Item = &'a u64>) -> String {
+    let fields = fields.into_iter().map(|field| format!(" {field:016x}"));
+    format!("{letter}{}\n", fields.collect::<String>())
 }

@@ -2,6 +2,7 @@
 
 #![allow(dead_code)] // a driver uses a part
 
+use crate::inputs::{halves, Random};
 use crate::kinds::{samples, Kind};
 
 /// Noise, with one number of its own at a place, if there is such a place.
@@ -51,5 +52,54 @@ impl Recipe {
             *x = f32::from_bits(self.mark);
         }
         samples
+    }
+}
+
+/// Near and far, noise each, and the echo's gain, which near has of far besides. No gain where it is +0.0.
+#[derive(Clone, Copy)]
+pub struct Sounds {
+    pub near: Recipe,
+    pub far: Recipe,
+    pub gain: f32,
+}
+
+impl Sounds {
+    pub fn noise(random: &mut Random, near: Kind, far: Kind, gain: f32) -> Sounds {
+        Sounds {
+            near: Recipe::noise(random.word(), near),
+            far: Recipe::noise(random.word(), far),
+            gain,
+        }
+    }
+
+    /// With other seeds.
+    pub fn seeded(self, seed: impl Fn(Recipe) -> u64) -> Sounds {
+        let next = |recipe| Recipe {
+            seed: seed(recipe),
+            ..recipe
+        };
+        Sounds {
+            near: next(self.near),
+            far: next(self.far),
+            gain: self.gain,
+        }
+    }
+
+    pub fn fields(self, lengths: [usize; 2]) -> [u64; 8] {
+        let ([a, b, c], [d, e, f]) = (self.near.fields(), self.far.fields());
+        let gain = self.gain.to_bits().into();
+        [a, b, c, d, e, f, halves(lengths), gain]
+    }
+
+    /// Of near and of far.
+    pub fn samples(self, count: usize) -> [Vec<f32>; 2] {
+        let mut near = self.near.samples(count);
+        let far = self.far.samples(count);
+        if self.gain.to_bits() != 0 {
+            for (n, f) in near.iter_mut().zip(&far) {
+                *n += self.gain * f;
+            }
+        }
+        [near, far]
     }
 }

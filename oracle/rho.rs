@@ -4,21 +4,20 @@
 //! A stream is a run of calls from a creation on: pairs in blocks of any length, now and then a flush, a reset, a call that is to be
 //! refused, and a state that no call left, which is called foreign. From there on its calls count as foreign until the next creation.
 
+mod aspeyruni;
 #[allow(dead_code)] // the Rust's text, whole
 mod canceller;
 mod error;
 mod inputs;
 mod kinds;
-mod rho_calls;
-mod rho_host;
 mod rho_reference;
 mod rust_rho;
 mod tally;
 
+use aspeyruni::rho::{self, Answer, RhoCanceller as State, Started};
 use canceller::EchoCanceller;
 use inputs::{bits, Noise, Random, DIGITS, SIGN, SIZES};
 use kinds::*;
-use rho_calls::{Answer, RhoCanceller as State, Started};
 use rho_reference::MOST_PAIRS;
 use rust_rho::RhoCanceller;
 use tally::Tally;
@@ -107,10 +106,10 @@ struct Functions {
 }
 
 const PORT: Functions = Functions {
-    create: rho_host::create,
-    process: rho_host::process,
-    flush: rho_host::flush,
-    reset: rho_host::reset,
+    create: rho::create,
+    process: rho::process,
+    flush: rho::flush,
+    reset: rho::reset,
 };
 
 const RUST: Functions = Functions {
@@ -370,12 +369,7 @@ impl Both {
             Scene::Echo(kind) => self.echo(kind, count),
             Scene::Strewn => {
                 let (mut near, mut far) = self.echo(FULL, count);
-                for x in near.iter_mut().chain(&mut far) {
-                    let word = self.random.word();
-                    if word % 16 == 0 {
-                        *x = f32::from_bits((word >> 32) as u32 | 0xff << 23);
-                    }
-                }
+                self.random.strew(near.iter_mut().chain(&mut far), 16);
                 (near, far)
             }
         };

@@ -1,20 +1,20 @@
 //! Calls of Rho in a row, with what the Rust gives after each, completed by document 01's refusals (rho_reference.rs). `oracle/lists`
 //! writes them to crates/rho_cases/stdin, which the program `rho_cases` replays. Its src/main.rt says what the fields of a line are.
 
+mod aspeyruni;
 #[allow(dead_code)] // the Rust's text, whole
 mod canceller;
 mod error;
 mod inputs;
 mod kinds;
 mod recipe;
-mod rho_calls;
 mod rho_reference;
 mod rust_rho;
 
-use inputs::{bits, bits32, halves, hash32, turned, Random};
+use aspeyruni::rho::{Answer, RhoCanceller as State, Started};
+use inputs::{bits, bits32, halves, hash32, line, turned, Random};
 use kinds::*;
 use recipe::Recipe;
-use rho_calls::{Answer, RhoCanceller as State, Started};
 
 /// The sizes of the program's buffers, of which a call is lent the first part.
 const MOST_TAPS: usize = 8200;
@@ -68,11 +68,7 @@ impl List {
             out.hash,
             halves(out.shown.map(|n| n as usize)),
         ];
-        self.text.push(letter);
-        for field in given.iter().chain(&gives) {
-            self.text += &format!(" {field:016x}");
-        }
-        self.text.push('\n');
+        self.text += &line(letter, given.iter().chain(&gives));
         self.state = s;
     }
 

@@ -3,12 +3,23 @@
 
 #![allow(dead_code)] // a driver uses a part
 
+use crate::aspeyruni::rho::{Answer, Report, RhoCanceller as State, Started};
 use crate::canceller::EchoCanceller;
-use crate::rho_calls::{Answer, Report, RhoCanceller as State, Started};
 use crate::rust_rho::RhoCanceller;
 
 pub const MOST_TAPS: usize = 8192;
 pub const MOST_PAIRS: usize = 4096;
+
+impl Started {
+    /// With nothing delivered and nothing reported.
+    pub fn whole(self) -> Answer {
+        Answer {
+            refusal: self.refusal,
+            state: self.state,
+            ..Answer::default()
+        }
+    }
+}
 
 pub fn create(sample_rate: u32, tail_ms: u32, weights: &mut [f32], history: &mut [f32]) -> Started {
     let refused = |refusal| Started {

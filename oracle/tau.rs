@@ -8,6 +8,7 @@
 //!
 //! To standard error goes a table of the branches that the blocks took.
 
+mod aspeyruni;
 mod branches;
 #[allow(dead_code)] // the Rust's text, whole
 mod canceller;
@@ -23,15 +24,14 @@ mod rust_tau;
 mod taken;
 mod tally;
 mod tau_calls;
-mod tau_host;
 mod tau_lines;
 mod tau_reference;
 
+use aspeyruni::tau::{self, Answer, TauCanceller, BLOCK, NUMBERS};
 use branches::Counts;
 use inputs::{bits, bits32, Noise, Random};
 use kinds::*;
 use tally::Tally;
-use tau_calls::*;
 use tau_lines::*;
 use tau_reference::{Continued, Seen, MOST_PAIRS, MOST_PARTITIONS};
 
@@ -151,11 +151,11 @@ impl Side {
         let (buffers, out) = self.lent(lent);
         let answer = match call {
             Call::Create(partitions, suppress) => {
-                tau_host::create(*partitions, *suppress, buffers).whole()
+                tau::create(*partitions, *suppress, buffers).whole()
             }
-            Call::Process(near, far) => tau_host::process(state, buffers, near, far, out),
-            Call::Flush => tau_host::flush(state, buffers, out),
-            Call::Reset => tau_host::reset(state, buffers).whole(),
+            Call::Process(near, far) => tau::process(state, buffers, near, far, out),
+            Call::Flush => tau::flush(state, buffers, out),
+            Call::Reset => tau::reset(state, buffers).whole(),
         };
         self.state = answer.state;
         answer
@@ -179,12 +179,10 @@ impl Side {
     }
 }
 
-/// All that is in an answer but for the state's arrays.
+/// All that is in an answer but for the state's arrays. Three numbers stand whole, of which a line has 32 bits.
 fn numbers(answer: &Answer) -> Vec<u64> {
     let s = &answer.state;
-    let m = &s.mic;
-    let (d, p) = (m.detector, m.paths);
-    vec![
+    let mut numbers = vec![
         answer.refusal.into(),
         answer.delivered as u64,
         answer.transfers,
@@ -193,30 +191,11 @@ fn numbers(answer: &Answer) -> Vec<u64> {
         answer.outcome.into(),
         bits(answer.leak),
         s.partitions as u64,
-        s.suppress.into(),
         s.carried as u64,
         s.far.head as u64,
-        s.far.far_active.into(),
-        bits(s.far.far_energy_peak),
-        d.double_talk.into(),
-        d.dtd_collapsed.into(),
-        d.protect_output.into(),
-        d.dtd_blocks.into(),
-        bits(d.dtd_baseline),
-        bits(d.dtd_deviation),
-        bits(d.coherence_smooth),
-        bits(d.step_scale),
-        bits(p.shadow_error_power),
-        bits(p.output_error_power),
-        p.quiet_streak.into(),
-        p.rescue_streak.into(),
-        bits(m.guard.divergence_near_power),
-        bits(m.guard.divergence_out_power),
-        bits(m.powers.near_power),
-        bits(m.powers.residual_power),
-        m.transfers,
-        m.divergence_resets,
-    ]
+    ];
+    numbers.extend(scalars(s));
+    numbers
 }
 
 /// The state's arrays.
@@ -487,12 +466,7 @@ impl Both {
         }
         let mut far = far;
         if self.random.below(8) == 0 {
-            for x in near.iter_mut().chain(&mut far) {
-                let word = self.random.word();
-                if word % 64 == 0 {
-                    *x = f32::from_bits((word >> 32) as u32 | 0xff << 23);
-                }
-            }
+            self.random.strew(near.iter_mut().chain(&mut far), 64);
         }
         Call::Process(near, far)
     }
@@ -575,22 +549,16 @@ impl Both {
         let mut is_chosen = || random.below(odds) == 0;
         let chosen: Vec<bool> = (0..21).map(|_| is_chosen()).collect();
         let random = &mut self.random;
-        let m = &mut s.mic;
         if chosen[0] {
             s.far.head = random.below(s.partitions);
             s.carried = random.one_of(&[0, 1, 100, 254, 255]);
         }
-        let flags = [
-            &mut s.far.far_active,
-            &mut m.detector.double_talk,
-            &mut m.detector.dtd_collapsed,
-            &mut m.detector.protect_output,
-        ];
-        for (flag, is_chosen) in flags.into_iter().zip(&chosen[1..]) {
+        for (flag, is_chosen) in flags(s).into_iter().zip(&chosen[1..]) {
             if *is_chosen {
                 *flag = random.below(2) > 0;
             }
         }
+        let m = &mut s.mic;
         if chosen[5] {
             m.detector.dtd_blocks = random.one_of(&[0, 62, 63, 64]);
             m.paths.rescue_streak = random.one_of(&[0, 1, 6, 7]);
@@ -604,20 +572,7 @@ impl Both {
         if chosen[8] {
             m.divergence_resets = random.one_of(&[0, 1, u64::MAX - 1, u64::MAX]);
         }
-        let numbers = [
-            &mut s.far.far_energy_peak,
-            &mut m.detector.dtd_baseline,
-            &mut m.detector.dtd_deviation,
-            &mut m.detector.coherence_smooth,
-            &mut m.detector.step_scale,
-            &mut m.paths.shadow_error_power,
-            &mut m.paths.output_error_power,
-            &mut m.guard.divergence_near_power,
-            &mut m.guard.divergence_out_power,
-            &mut m.powers.near_power,
-            &mut m.powers.residual_power,
-        ];
-        for (number, is_chosen) in numbers.into_iter().zip(&chosen[9..]) {
+        for (number, is_chosen) in floats(s).into_iter().zip(&chosen[9..]) {
             if *is_chosen {
                 *number = random.one_of(&ODD);
             }

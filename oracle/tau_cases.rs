@@ -3,6 +3,7 @@
 //!
 //! Beside each call runs the Rust's own, on one engine from call to call, which must come to the same.
 
+mod aspeyruni;
 mod branches;
 #[allow(dead_code)] // the Rust's text, whole
 mod canceller;
@@ -21,13 +22,13 @@ mod tau_calls;
 mod tau_lines;
 mod tau_reference;
 
+use aspeyruni::tau::*;
 use branches::Counts;
-use inputs::{bits, halves, hash32, turned, Random};
+use inputs::{bits, halves, hash32, line, turned, Random};
 use kinds::*;
-use recipe::Recipe;
-use tau_calls::*;
+use recipe::{Recipe, Sounds};
 use tau_lines::*;
-use tau_reference::{Continued, Lent};
+use tau_reference::Continued;
 
 /// The sizes of the program's buffers, of which a call is lent the first part.
 const MOST_NUMBERS: usize = 16456;
@@ -48,38 +49,9 @@ struct List {
     answers: [usize; 7],
 }
 
-/// Near and far of a call, each by its seed, and the echo's gain. No gain where it is +0.0. The calls after go on where the noise is.
-#[derive(Clone, Copy)]
-struct Sounds {
-    near: Recipe,
-    far: Recipe,
-    gain: f32,
-}
-
-impl Sounds {
-    fn after(self, count: usize) -> Sounds {
-        let next = |recipe: Recipe| Recipe {
-            seed: (0..count).fold(recipe.seed, |word, _| turned(word)),
-            ..recipe
-        };
-        Sounds {
-            near: next(self.near),
-            far: next(self.far),
-            gain: self.gain,
-        }
-    }
-
-    /// As far as the program's buffers go, of which a call is given a part.
-    fn samples(self) -> (Vec<f32>, Vec<f32>) {
-        let mut near = self.near.samples(MOST_PAIRS);
-        let far = self.far.samples(MOST_PAIRS);
-        if self.gain.to_bits() != 0 {
-            for (n, f) in near.iter_mut().zip(&far) {
-                *n += self.gain * f;
-            }
-        }
-        (near, far)
-    }
+/// Those of the calls after so many pairs, which go on where the noise is.
+fn after(sounds: Sounds, count: usize) -> Sounds {
+    sounds.seeded(|recipe| (0..count).fold(recipe.seed, |word, _| turned(word)))
 }
 
 /// The numbers of the state that are in no array, but for the settings, as after an echo that was learnt.
@@ -122,11 +94,7 @@ impl List {
             answer.divergence_resets,
         ];
         let fields = given.iter().chain(&first).chain(&kept).chain(&last);
-        self.text.push(letter);
-        for field in fields {
-            self.text += &format!(" {field:016x}");
-        }
-        self.text.push('\n');
+        self.text += &line(letter, fields);
         if let Some(call) = "cpfr".find(letter) {
             self.calls[call] += 1;
             self.answers[answer.refusal as usize] += 1;
@@ -174,18 +142,16 @@ impl List {
     }
 
     fn process_any(&mut self, sounds: Sounds, [given, heard]: [usize; 2], room: usize) {
-        let (near, far) = sounds.samples();
+        // as far as the program's buffers go, of which a call is given a part
+        let [near, far] = sounds.samples(MOST_PAIRS);
         let (near, far) = (&near[..given], &far[..heard]);
         let mut out = Recipe::noise(1, FULL).samples(room);
         let counts = &mut self.counts;
         let lent = lend(&mut self.buffers, self.lent);
         let mut watch = |seen: tau_reference::Seen| counts.see(seen);
         let answer = tau_reference::process(&self.state, lent, near, far, &mut out, &mut watch);
-        let ([a, b, c], [d, e, f]) = (sounds.near.fields(), sounds.far.fields());
-        let lengths = halves([given, heard]);
-        let gain = sounds.gain.to_bits().into();
         let hash = hash32(&out);
-        self.line('p', [a, b, c, d, e, f, lengths, gain], room, answer, hash);
+        self.line('p', sounds.fields([given, heard]), room, answer, hash);
         if answer.refusal == 0 {
             let samples = self.continued.process(near, far);
             self.agree(answer, &out, &samples);
@@ -212,11 +178,7 @@ impl List {
     }
 
     fn noise(&mut self, near: Kind, far: Kind, gain: f32) -> Sounds {
-        Sounds {
-            near: Recipe::noise(self.seed(), near),
-            far: Recipe::noise(self.seed(), far),
-            gain,
-        }
+        Sounds::noise(&mut self.random, near, far, gain)
     }
 
     fn kinds(&mut self, near: Kind, far: Kind, gain: f32, count: usize) {
@@ -235,7 +197,7 @@ impl List {
             let some = [short, 4_096, 4_096, any, more, more, more, more];
             let cut = self.random.one_of(&some).min(left);
             self.pairs(sounds, cut);
-            sounds = sounds.after(cut);
+            sounds = after(sounds, cut);
             left -= cut;
         }
     }
@@ -444,7 +406,7 @@ fn same_cuts(list: &mut List) {
         list.reset();
         for count in cuts {
             list.pairs(next, count);
-            next = next.after(count);
+            next = after(next, count);
         }
     }
     list.flush();
@@ -565,10 +527,9 @@ fn foreign(list: &mut List) {
         s.suppress = turn % 2 > 0;
         s.carried = list.random.below(BLOCK);
         s.far.head = list.random.below(s.partitions);
-        s.far.far_active = list.random.below(2) > 0;
-        s.mic.detector.double_talk = list.random.below(2) > 0;
-        s.mic.detector.dtd_collapsed = list.random.below(2) > 0;
-        s.mic.detector.protect_output = list.random.below(2) > 0;
+        for flag in flags(&mut s) {
+            *flag = list.random.below(2) > 0;
+        }
         s.mic.detector.dtd_blocks = list.random.one_of(&[0, 62, 63, 64, 64]);
         s.mic.paths.rescue_streak = list.random.one_of(&[0, 1, 6, 7]);
         for number in [

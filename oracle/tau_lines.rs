@@ -2,10 +2,10 @@
 
 #![allow(dead_code)] // a driver uses a part
 
+use crate::aspeyruni::tau::{Detector, Paths, TauCanceller};
 use crate::inputs::{bits, halves, hash, hash32, Noise};
 use crate::inputs::{DIGITS, DIGITS32, SIGN, SIGN32, SIZES};
 use crate::kinds::Kind;
-use crate::tau_calls::*;
 use crate::tau_reference;
 
 /// 1/16 to 1/8, and 2^-7 to 2^-6.
@@ -109,7 +109,7 @@ pub fn fields(s: &TauCanceller, [shadow, output, spectra]: [&[f64]; 3]) -> Vec<u
 }
 
 /// The numbers of the state that are in no array, as fields 11 to 27.
-fn scalars(s: &TauCanceller) -> [u64; 17] {
+pub fn scalars(s: &TauCanceller) -> [u64; 17] {
     let m = &s.mic;
     let (d, p) = (m.detector, m.paths);
     let flags = [
@@ -141,6 +141,35 @@ fn scalars(s: &TauCanceller) -> [u64; 17] {
         bits(m.powers.residual_power),
         m.transfers,
         m.divergence_resets,
+    ]
+}
+
+/// Those of them that are flags, but for the setting.
+pub fn flags(s: &mut TauCanceller) -> [&mut bool; 4] {
+    let d = &mut s.mic.detector;
+    [
+        &mut s.far.far_active,
+        &mut d.double_talk,
+        &mut d.dtd_collapsed,
+        &mut d.protect_output,
+    ]
+}
+
+/// Those that are f64s.
+pub fn floats(s: &mut TauCanceller) -> [&mut f64; 11] {
+    let m = &mut s.mic;
+    [
+        &mut s.far.far_energy_peak,
+        &mut m.detector.dtd_baseline,
+        &mut m.detector.dtd_deviation,
+        &mut m.detector.coherence_smooth,
+        &mut m.detector.step_scale,
+        &mut m.paths.shadow_error_power,
+        &mut m.paths.output_error_power,
+        &mut m.guard.divergence_near_power,
+        &mut m.guard.divergence_out_power,
+        &mut m.powers.near_power,
+        &mut m.powers.residual_power,
     ]
 }
 

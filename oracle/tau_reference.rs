@@ -5,19 +5,17 @@
 
 #![allow(dead_code)] // a driver uses a part
 
+use crate::aspeyruni::tau::*;
 use crate::canceller::EchoCanceller;
 use crate::config::Suppression;
 use crate::fft::Complex;
 use crate::rust_tau::TauCanceller as Engine;
 use crate::taken::Taken;
-use crate::tau_calls::*;
+use crate::tau_calls::{Blocked, Outcome};
 use crate::tau_lines::fields;
 
 pub const MOST_PARTITIONS: usize = 32;
 pub const MOST_PAIRS: usize = 4096;
-
-/// The shadow weights, the output weights and the far spectra.
-pub type Lent<'a> = [&'a mut [f64]; 3];
 
 /// One block, for whoever counts branches: the state before it, what it came to, the branches that it took, far, and whether it is the
 /// block of a flush.

@@ -1,11 +1,12 @@
 //! The transform and narrowing, the port against the Rust: every number's bits, NaN equal to NaN.
 
+mod aspeyruni;
 mod fft;
-mod host;
 mod inputs;
 mod reference;
 mod tally;
 
+use aspeyruni::{complex_forward, complex_inverse};
 use inputs::{Noise, Random, DIGITS, DIGITS32, SIGN, SIGN32, SIZES, SIZES32};
 use reference::{Reference, POINTS, SAMPLES, SPECTRUM, WRONG_LENGTH};
 use std::array::from_fn;
@@ -116,15 +117,9 @@ fn main() {
     let mut rust = Reference::new();
     forward(&mut random, &mut rust).tell("forward");
     inverse(&mut random, &mut rust).tell("inverse");
-    let forwards = (
-        host::complex_forward as Port,
-        Reference::complex_forward as Rust,
-    );
+    let forwards = (complex_forward as Port, Reference::complex_forward as Rust);
     complex(&mut random, &mut rust, forwards).tell("complex forward");
-    let inverses = (
-        host::complex_inverse as Port,
-        Reference::complex_inverse as Rust,
-    );
+    let inverses = (complex_inverse as Port, Reference::complex_inverse as Rust);
     complex(&mut random, &mut rust, inverses).tell("complex inverse");
     narrow(&mut random).tell("narrow");
     refusals(&mut random).tell("refusals");
@@ -138,7 +133,7 @@ fn forward(random: &mut Random, rust: &mut Reference) -> Tally {
             let mut here: [f64; SPECTRUM] = random.numbers(SOUND);
             let mut there = here;
             tally.answer(
-                host::forward(&input, &mut here),
+                aspeyruni::forward(&input, &mut here),
                 rust.forward(&input, &mut there),
             );
             tally.all(&here, &there);
@@ -170,7 +165,7 @@ fn one_inverse(
     let mut here = random.samples(SOUND);
     let mut there = here;
     tally.answer(
-        host::inverse(spectrum, &mut here),
+        aspeyruni::inverse(spectrum, &mut here),
         rust.inverse(spectrum, &mut there),
     );
     tally.samples(&here, &there);
@@ -209,7 +204,7 @@ fn narrow(random: &mut Random) -> Tally {
             }
         };
         let x = f64::from_bits(pattern);
-        tally.one(host::narrow(x).into(), (x as f32).into());
+        tally.one(aspeyruni::narrow(x).into(), (x as f32).into());
     }
     tally
 }
@@ -232,20 +227,20 @@ fn refusals(random: &mut Random) -> Tally {
             let short = wide.map(|x| x as f32);
             if (given, room) != (SAMPLES, SPECTRUM) {
                 let mut out = wide;
-                let answer = host::forward(&short[..given], &mut out[..room]);
+                let answer = aspeyruni::forward(&short[..given], &mut out[..room]);
                 tally.answer(answer, WRONG_LENGTH);
                 tally.all(&out, &wide);
             }
             if (given, room) != (SPECTRUM, SAMPLES) {
                 let mut out = short;
-                let answer = host::inverse(&wide[..given], &mut out[..room]);
+                let answer = aspeyruni::inverse(&wide[..given], &mut out[..room]);
                 tally.answer(answer, WRONG_LENGTH);
                 tally.samples(&out, &short);
             }
             if given == room && given != POINTS {
                 let mut points = wide;
-                tally.answer(host::complex_forward(&mut points[..given]), WRONG_LENGTH);
-                tally.answer(host::complex_inverse(&mut points[..given]), WRONG_LENGTH);
+                tally.answer(complex_forward(&mut points[..given]), WRONG_LENGTH);
+                tally.answer(complex_inverse(&mut points[..given]), WRONG_LENGTH);
                 tally.all(&points, &wide);
             }
         }

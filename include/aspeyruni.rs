@@ -1,0 +1,378 @@
+//! The echo canceller whose samples are proved: what a Rust host calls, as include/aspeyruni.h is for C. A host has it as a module,
+//! `#[path = "../include/aspeyruni.rs"] mod aspeyruni;`, and links the library that `rt staticlib capi` writes. The functions are those
+//! of crates/capi, and docs/PROMISES.md says what each promises. It takes Rust 1.82 or later, in any edition from 2021 on.
+//!
+//! A buffer is a slice, which the library is passed as a pointer and a length. A state is passed by value, and comes back in the answer;
+//! any state may be passed, and a bad one is refused. For an answer that is a struct the library is given the place, before all else:
+//! x86-64 passes an answer of this size so, and the library, which is written for x86-64, does it on every processor (oracle/library).
+//!
+//! Refusals: 0 none, 1 a setting outside its range, 2 a lent buffer that has not exactly the needed length, 3 near and far of different
+//! lengths, 4 more than 4,096 pairs in one call, 5 an output buffer shorter than the call would deliver, 6 a state with a number outside
+//! its range. A refused call delivers nothing, gives back the state as it was, and writes nothing else.
+
+#![allow(dead_code)] // a host uses a part
+
+/// What the library answers, in the place that it is given for it before all else. After that come the settings or the state, and then
+/// the buffers: those that are lent to it, those that it reads, and the one that it writes samples to.
+macro_rules! answer {
+    (
+        $call:ident($($given:ident),*)
+        $(lent($($lent:ident),*))?
+        $(read($($read:ident),*))?
+        $(written($($written:ident),*))?
+    ) => {{
+        let mut place = std::mem::MaybeUninit::uninit();
+        unsafe {
+            $call(
+                place.as_mut_ptr(),
+                $($given,)*
+                $($($lent.as_mut_ptr(), $lent.len(),)*)?
+                $($($read.as_ptr(), $read.len(),)*)?
+                $($($written.as_mut_ptr(), $written.len(),)*)?
+            );
+            place.assume_init() // every call writes all of it
+        }
+    }};
+}
+
+// ---- numbers and the transform
+
+unsafe extern "C" {
+    fn aspeyruni_narrow(x: f64) -> f32;
+    fn aspeyruni_narrow_bits(x: f64) -> u32;
+    fn aspeyruni_forward(from: *const f32, from_len: usize, to: *mut f64, to_len: usize) -> u32;
+    fn aspeyruni_inverse(from: *const f64, from_len: usize, to: *mut f32, to_len: usize) -> u32;
+    fn aspeyruni_complex_forward(points: *mut f64, points_len: usize) -> u32;
+    fn aspeyruni_complex_inverse(points: *mut f64, points_len: usize) -> u32;
+}
+
+/// The nearest f32, ties to even; a NaN gives 7FC00000.
+pub fn narrow(x: f64) -> f32 {
+    unsafe { aspeyruni_narrow(x) }
+}
+
+pub fn narrow_bits(x: f64) -> u32 {
+    unsafe { aspeyruni_narrow_bits(x) }
+}
+
+/// 512 samples to 514 numbers, 257 bins real part then imaginary. 0, or refusal 2, as with the three below.
+pub fn forward(samples: &[f32], spectrum: &mut [f64]) -> u32 {
+    let (to, to_len) = (spectrum.as_mut_ptr(), spectrum.len());
+    unsafe { aspeyruni_forward(samples.as_ptr(), samples.len(), to, to_len) }
+}
+
+/// And back.
+pub fn inverse(spectrum: &[f64], samples: &mut [f32]) -> u32 {
+    let (to, to_len) = (samples.as_mut_ptr(), samples.len());
+    unsafe { aspeyruni_inverse(spectrum.as_ptr(), spectrum.len(), to, to_len) }
+}
+
+/// 256 complex points in place, 512 numbers.
+pub fn complex_forward(points: &mut [f64]) -> u32 {
+    unsafe { aspeyruni_complex_forward(points.as_mut_ptr(), points.len()) }
+}
+
+pub fn complex_inverse(points: &mut [f64]) -> u32 {
+    unsafe { aspeyruni_complex_inverse(points.as_mut_ptr(), points.len()) }
+}
+
+/// TauCanceller, the block engine: blocks of 256 pairs, from 1 to 32 partitions.
+pub mod tau {
+    pub const BLOCK: usize = 256;
+    pub const BINS: usize = 257;
+    /// Of a partition in each lent buffer: its bins, real part then imaginary.
+    pub const NUMBERS: usize = 2 * BINS;
+
+    /// The shadow weights, the output weights and the far spectra, each of `NUMBERS` for each partition.
+    pub type Lent<'a> = [&'a mut [f64]; 3];
+
+    #[repr(C)]
+    #[derive(Clone, Copy, Debug)]
+    pub struct Far {
+        pub window: [f32; 2 * BLOCK],
+        pub head: usize,
+        pub far_active: bool,
+        pub far_energy_peak: f64,
+    }
+
+    #[repr(C)]
+    #[derive(Clone, Copy, Debug, Default)]
+    pub struct Detector {
+        pub double_talk: bool,
+        pub dtd_collapsed: bool,
+        pub protect_output: bool,
+        pub dtd_blocks: u32,
+        pub dtd_baseline: f64,
+        pub dtd_deviation: f64,
+        pub coherence_smooth: f64,
+        pub step_scale: f64,
+    }
+
+    #[repr(C)]
+    #[derive(Clone, Copy, Debug, Default)]
+    pub struct Paths {
+        pub shadow_error_power: f64,
+        pub output_error_power: f64,
+        pub quiet_streak: u32,
+        pub rescue_streak: u32,
+    }
+
+    #[repr(C)]
+    #[derive(Clone, Copy, Debug)]
+    pub struct Suppressor {
+        pub echo_power: [f64; BINS],
+        pub error_power: [f64; BINS],
+        pub gain: [f64; BINS],
+        pub error_window: [f32; 2 * BLOCK],
+    }
+
+    #[repr(C)]
+    #[derive(Clone, Copy, Debug, Default)]
+    pub struct Guard {
+        pub divergence_near_power: f64,
+        pub divergence_out_power: f64,
+    }
+
+    #[repr(C)]
+    #[derive(Clone, Copy, Debug, Default)]
+    pub struct Powers {
+        pub near_power: f64,
+        pub residual_power: f64,
+    }
+
+    #[repr(C)]
+    #[derive(Clone, Copy, Debug)]
+    pub struct Mic {
+        pub detector: Detector,
+        pub paths: Paths,
+        pub far_power_mean: [f64; BINS],
+        pub suppressor: Suppressor,
+        pub guard: Guard,
+        pub powers: Powers,
+        pub transfers: u64,
+        pub divergence_resets: u64,
+    }
+
+    #[repr(C)]
+    #[derive(Clone, Copy, Debug)]
+    pub struct TauCanceller {
+        pub partitions: usize,
+        pub suppress: bool,
+        pub carried: usize,
+        pub near_carry: [f32; BLOCK],
+        pub far_carry: [f32; BLOCK],
+        pub far: Far,
+        pub mic: Mic,
+    }
+
+    /// Of create and reset.
+    #[repr(C)]
+    #[derive(Clone, Copy, Debug)]
+    pub struct Started {
+        pub refusal: u32,
+        pub state: TauCanceller,
+    }
+
+    /// Of process and flush: what the call delivers and leaves, and then its report. The outcome is that of the last block: 0 none run,
+    /// 1 no move, 2 a rescue, 3 a move, whose leak is above 0 and at most 0.75.
+    #[repr(C)]
+    #[derive(Clone, Copy, Debug)]
+    pub struct Answer {
+        pub refusal: u32,
+        pub delivered: usize,
+        pub state: TauCanceller,
+        pub transfers: u64,
+        pub divergence_resets: u64,
+        pub double_talk: bool,
+        pub outcome: u32,
+        pub leak: f64,
+    }
+
+    unsafe extern "C" {
+        fn aspeyruni_tau_create(
+            answer: *mut Started,
+            partitions: usize,
+            suppress: bool,
+            shadow: *mut f64,
+            shadow_len: usize,
+            output: *mut f64,
+            output_len: usize,
+            spectra: *mut f64,
+            spectra_len: usize,
+        );
+        fn aspeyruni_tau_process(
+            answer: *mut Answer,
+            state: TauCanceller,
+            shadow: *mut f64,
+            shadow_len: usize,
+            output: *mut f64,
+            output_len: usize,
+            spectra: *mut f64,
+            spectra_len: usize,
+            near: *const f32,
+            near_len: usize,
+            far: *const f32,
+            far_len: usize,
+            out: *mut f32,
+            out_len: usize,
+        );
+        fn aspeyruni_tau_flush(
+            answer: *mut Answer,
+            state: TauCanceller,
+            shadow: *mut f64,
+            shadow_len: usize,
+            output: *mut f64,
+            output_len: usize,
+            spectra: *mut f64,
+            spectra_len: usize,
+            out: *mut f32,
+            out_len: usize,
+        );
+        fn aspeyruni_tau_reset(
+            answer: *mut Started,
+            state: TauCanceller,
+            shadow: *mut f64,
+            shadow_len: usize,
+            output: *mut f64,
+            output_len: usize,
+            spectra: *mut f64,
+            spectra_len: usize,
+        );
+    }
+
+    pub fn create(partitions: usize, suppress: bool, [shadow, output, spectra]: Lent) -> Started {
+        answer!(aspeyruni_tau_create(partitions, suppress) lent(shadow, output, spectra))
+    }
+
+    /// Delivers 256 samples for each block that the pairs fill, to the first places of `out`.
+    pub fn process(
+        state: TauCanceller,
+        [shadow, output, spectra]: Lent,
+        near: &[f32],
+        far: &[f32],
+        out: &mut [f32],
+    ) -> Answer {
+        answer!(aspeyruni_tau_process(state) lent(shadow, output, spectra) read(near, far) written(out))
+    }
+
+    /// Delivers what waits, at most 255 samples.
+    pub fn flush(state: TauCanceller, [shadow, output, spectra]: Lent, out: &mut [f32]) -> Answer {
+        answer!(aspeyruni_tau_flush(state) lent(shadow, output, spectra) written(out))
+    }
+
+    /// Keeps the settings and the two counters.
+    pub fn reset(state: TauCanceller, [shadow, output, spectra]: Lent) -> Started {
+        answer!(aspeyruni_tau_reset(state) lent(shadow, output, spectra))
+    }
+}
+
+/// RhoCanceller, the time-domain engine: a sample out for each pair, at once.
+pub mod rho {
+    #[repr(C)]
+    #[derive(Clone, Copy, Debug, Default)]
+    pub struct RhoCanceller {
+        pub taps: usize,
+        pub pos: usize,
+        pub hangover_samples: u32,
+        pub hangover_remaining: u32,
+        pub near_power: f64,
+        pub residual_power: f64,
+        pub divergence_resets: u64,
+    }
+
+    #[repr(C)]
+    #[derive(Clone, Copy, Debug, Default)]
+    pub struct Report {
+        pub divergence_resets: u64,
+        pub double_talk: bool,
+    }
+
+    /// Of create and reset.
+    #[repr(C)]
+    #[derive(Clone, Copy, Debug)]
+    pub struct Started {
+        pub refusal: u32,
+        pub state: RhoCanceller,
+    }
+
+    /// Of process and flush.
+    #[repr(C)]
+    #[derive(Clone, Copy, Debug, Default)]
+    pub struct Answer {
+        pub refusal: u32,
+        pub delivered: usize,
+        pub state: RhoCanceller,
+        pub report: Report,
+    }
+
+    unsafe extern "C" {
+        fn aspeyruni_rho_create(
+            answer: *mut Started,
+            sample_rate: u32,
+            tail_ms: u32,
+            weights: *mut f32,
+            weights_len: usize,
+            history: *mut f32,
+            history_len: usize,
+        );
+        fn aspeyruni_rho_process(
+            answer: *mut Answer,
+            state: RhoCanceller,
+            weights: *mut f32,
+            weights_len: usize,
+            history: *mut f32,
+            history_len: usize,
+            near: *const f32,
+            near_len: usize,
+            far: *const f32,
+            far_len: usize,
+            out: *mut f32,
+            out_len: usize,
+        );
+        fn aspeyruni_rho_flush(
+            answer: *mut Answer,
+            state: RhoCanceller,
+            weights: *const f32,
+            weights_len: usize,
+            history: *const f32,
+            history_len: usize,
+        );
+        fn aspeyruni_rho_reset(
+            answer: *mut Started,
+            state: RhoCanceller,
+            weights: *mut f32,
+            weights_len: usize,
+            history: *mut f32,
+            history_len: usize,
+        );
+    }
+
+    /// Rate 8,000 to 48,000, tail 0 to 1,000 ms; both buffers have floor(tail * rate / 1000) numbers, at least 1 and at most 8,192.
+    pub fn create(
+        sample_rate: u32,
+        tail_ms: u32,
+        weights: &mut [f32],
+        history: &mut [f32],
+    ) -> Started {
+        answer!(aspeyruni_rho_create(sample_rate, tail_ms) lent(weights, history))
+    }
+
+    pub fn process(
+        state: RhoCanceller,
+        weights: &mut [f32],
+        history: &mut [f32],
+        near: &[f32],
+        far: &[f32],
+        out: &mut [f32],
+    ) -> Answer {
+        answer!(aspeyruni_rho_process(state) lent(weights, history) read(near, far) written(out))
+    }
+
+    pub fn flush(state: RhoCanceller, weights: &[f32], history: &[f32]) -> Answer {
+        answer!(aspeyruni_rho_flush(state) read(weights, history))
+    }
+
+    pub fn reset(state: RhoCanceller, weights: &mut [f32], history: &mut [f32]) -> Started {
+        answer!(aspeyruni_rho_reset(state) lent(weights, history))
+    }
+}
