@@ -2,10 +2,10 @@
 //
 // A capture's bytes go in and the delivered samples' bytes come out. The calls refuse as TauCanceller's own do, and a refused one writes
 // nothing.
+use numbers::lesser;
 use tau::Answer;
 use tau_steps::state::TauCanceller;
 ghost use mathlib.Core.Path.{_≡_};
-ghost use Prim.Native.Nat.{min};
 ghost use Rattle.capture.specs.Feeds.{fedOf, finishedOf};
 
 // The whole pairs of `held`, at most 4,096 of them, are processed. What they deliver stands at the front of `bytes`, four a sample.
@@ -58,10 +58,4 @@ pub fn finish(
     let delivered = answer.delivered;
     wire::write_samples(&out[..delivered], bytes);
     answer
-}
-
-fn lesser(a: usize, b: usize) -> usize
-    ensures { λ r. ⌜ r ≡ min a b ⌝ }
-{
-    if a < b { a } else { b }
 }

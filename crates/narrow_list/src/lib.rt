@@ -2,11 +2,12 @@
 // compiler turns into operations on several numbers at once. A group in which one number cannot be rounded so (a zero, a NaN, a
 // result that is subnormal or too large) is narrowed number by number. With groups of eight or thirty-two it took longer.
 use numbers::drop_low;
+use numbers::lesser;
 use numbers::narrow;
 use numbers::to_bits;
 ghost use mathlib.Core.Path.{_≡_};
 ghost use mathlib.Core.Bool.{true};
-ghost use Prim.Native.Nat.{ℕ, _+_, _≤_, _<_, min};
+ghost use Prim.Native.Nat.{ℕ, _+_, _≤_, _<_};
 ghost use lib.Ieee.{nan, binary64, ofBits};
 ghost use lib.ListN.{length, getD};
 ghost use Rattle.laws.specs.Loops.{over, overAt};
@@ -24,12 +25,6 @@ pub fn narrow_into(xs: &[f64], out: &mut [f32])
         at += 16;
     }
     one_by_one(xs, at, n - at, out);
-}
-
-fn lesser(a: usize, b: usize) -> usize
-    ensures { λ r. ⌜ r ≡ min a b ⌝ }
-{
-    if a < b { a } else { b }
 }
 
 fn narrow_group(xs: &[f64], at: usize, out: &mut [f32])

@@ -19,6 +19,7 @@ pub use narrowing::widen;
 pub use order::abs;
 pub use order::abs32;
 pub use order::clamp;
+pub use order::lesser;
 pub use order::max;
 pub use order::max32;
 pub use order::min;

@@ -1,5 +1,6 @@
 // Sizes, and the order of two numbers.
 ghost use mathlib.Core.Path.{_≡_};
+ghost use Prim.Native.Nat.{min as least};
 ghost use Rattle.numbers.specs.Order.{absOf, minOf, maxOf, clampOf};
 
 // |x|: the sign is cleared, of a zero and an infinity too.
@@ -62,4 +63,11 @@ pub fn clamp(x: f64, lo: f64, hi: f64) -> f64
         return lo;
     }
     if hi < x { hi } else { x }
+}
+
+// Of two counts, as of what there is and what there is room for.
+pub fn lesser(a: usize, b: usize) -> usize
+    ensures { λ r. ⌜ r ≡ least a b ⌝ }
+{
+    if a < b { a } else { b }
 }

@@ -6,7 +6,7 @@ pub one : {A : Type 0} (d : A) → One d
 one d x y h k = h ∙ sym k
 
 pub numbers : Numbers
-numbers x y z b xs out = (one _, one _, one _, one _, one _, one _, one _, one _, one _, one _, one _, one _, one _, one _)
+numbers x y z b m n xs out = (one _, one _, one _, one _, one _, one _, one _, one _, one _, one _, one _, one _, one _, one _, one _)
 
 pub tables : Tables
 tables x = (one _, one _, one _, one _)

@@ -4,7 +4,7 @@
 use mathlib.Core.Path.{_≡_}
 use mathlib.Core.Bool.{Bool}
 use mathlib.Core.List.{List}
-use Prim.Native.Nat.{ℕ, _+_, _*_, _/_, _%_, _^_}
+use Prim.Native.Nat.{ℕ, _+_, _*_, _/_, _%_, _^_, min}
 use lib.Dec.{leb}
 use lib.Ieee.{Float, nan, binary32, binary64, ofBits, toBits}
 use lib.Ieee.Nearest.{closest}
@@ -33,13 +33,14 @@ use Rattle.manifest.specs.Sorted.{answerOf}
 abbrev pub One : {A : Type 0} → A → Type 0
 One {A} d = (x y : A) → x ≡ d → y ≡ d → x ≡ y
 
--- numbers, narrow_list: x, y, z are numbers, b a pattern, xs and out lists
+-- numbers, narrow_list: x, y, z are numbers, b a pattern, m and n counts, xs and out lists
 abbrev pub Numbers : Type 0
-Numbers = (x y z : Float) (b : ℕ) (xs out : List Float)
+Numbers = (x y z : Float) (b m n : ℕ) (xs out : List Float)
     → One (absOf x)
     × One (minOf x y)
     × One (maxOf x y)
     × One (clampOf x y z)
+    × One (min m n)
     × One (isFinite x)
     × One (finiteOrZero x)
     × One (narrowOf x)

@@ -93,7 +93,7 @@ pub fn run(
     }
 }
 
-// What is left in the carry, which there is.
+// What is left in the carry. Where nothing is, no block is run.
 pub fn flush_block(
     s: TauCanceller,
     shadow: &mut [f64],

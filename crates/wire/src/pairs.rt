@@ -1,6 +1,7 @@
 // Reading.
+use numbers::lesser;
 ghost use mathlib.Core.Path.{_≡_};
-ghost use Prim.Native.Nat.{_+_, _*_, _/_, _%_, _≤_, _<_, min};
+ghost use Prim.Native.Nat.{_+_, _*_, _/_, _%_, _≤_, _<_};
 ghost use lib.Dec.{leb};
 ghost use lib.ListN.{length, getD};
 ghost use Rattle.laws.specs.Choice.{pick};
@@ -58,12 +59,6 @@ fn wide(b: u8) -> u32
     ensures { λ r. ⌜ r < 256 ⌝ }
 {
     b as u32
-}
-
-fn lesser(a: usize, b: usize) -> usize
-    ensures { λ r. ⌜ r ≡ min a b ⌝ }
-{
-    if a < b { a } else { b }
 }
 
 // Of the first `held` bytes of a block, those after the last whole pair go to its start. Fewer than eight.
