@@ -62,16 +62,19 @@ eight n m = omega arith
 long : (n : ℕ) (u v : List ℕ) → length u ≡ 8 * n → pairsIn (u ++ v) ≡ n + pairsIn v
 long n u v e = ap (λ (k : ℕ). k / 8) (length-append u v ∙ ap (λ (k : ℕ). k + length v) e) ∙ eight n (length v)
 
--- fewer than eight bytes are no pair
-few : (n : ℕ) (r : List ℕ) → length r ≡ n - 8 * (n / 8) → pairsIn r ≡ 0
-few n r e = go (length r) (omega arith)
-  where
-    go : (m : ℕ) → m < 8 → m / 8 ≡ 0
-    go m h = omega arith
-
 table-none : {n : ℕ} (f : ℕ → Float) → n ≡ 0 → table n f ≡ []
 unfolding table
 table-none f e = ap (λ (m : ℕ). table m f) e
+
+-- fewer than eight bytes are no pair
+table-short : (s : List ℕ) (f : ℕ → Float) → length s < 8 → table (pairsIn s) f ≡ []
+table-short s f h = table-none f (go (length s) h)
+  where
+    go : (n : ℕ) → n < 8 → n / 8 ≡ 0
+    go n h = omega arith
+
+pub rest-short : (a : List ℕ) → length (restIn a) < 8
+rest-short a = rw (length-drop (8 * pairsIn a) a) (omega arith)
 
 module _ (g : ℕ → ℕ) (on : (n k : ℕ) → g (n + k) ≡ 2 * n + g k) (below : (n k : ℕ) → k < n → g k < 2 * n) where
   -- behind n whole pairs
@@ -101,7 +104,7 @@ module _ (g : ℕ → ℕ) (on : (n k : ℕ) → g (n + k) ≡ 2 * n + g k) (bel
       let u = take (8 * n) a in
       let r = restIn a in
       let e : length u ≡ 8 * n = length-take-le (8 * n) a (omega arith) in
-      let none : picks g r ≡ [] = table-none (λ k. sampleAt r (g k)) (few (length a) r (length-drop (8 * n) a)) in
+      let none : picks g r ≡ [] = table-short r (λ k. sampleAt r (g k)) (rest-short a) in
       let parts : u ++ r ≡ a = take-append-drop (8 * n) a in
       let first : picks g a ≡ picks g u =
       ap (picks g) (sym parts) ∙ pairs-cut u r n e ∙ ap (λ (l : List Float). picks g u ++ l) none ∙ append-nil (picks g u) in
@@ -132,12 +135,6 @@ rest-cut a b =
     off m n k e = omega arith
 
 -- a second part that makes no pair whole adds none
-table-short : (s : List ℕ) (f : ℕ → Float) → length s < 8 → table (pairsIn s) f ≡ []
-table-short s f h = table-none f (go (length s) h)
-  where
-    go : (n : ℕ) → n < 8 → n / 8 ≡ 0
-    go n h = omega arith
-
 pub near-same : (a b : List ℕ) → length (restIn a ++ b) < 8 → nearIn (a ++ b) ≡ nearIn a
 unfolding nearIn
 near-same a b h = near-cut a b ∙ ap (λ (l : List Float). nearIn a ++ l) (table-short (restIn a ++ b) (λ k. sampleAt (restIn a ++ b) (2 * k)) h) ∙ append-nil (nearIn a)
@@ -145,9 +142,6 @@ near-same a b h = near-cut a b ∙ ap (λ (l : List Float). nearIn a ++ l) (tabl
 pub far-same : (a b : List ℕ) → length (restIn a ++ b) < 8 → farIn (a ++ b) ≡ farIn a
 unfolding farIn
 far-same a b h = far-cut a b ∙ ap (λ (l : List Float). farIn a ++ l) (table-short (restIn a ++ b) (λ k. sampleAt (restIn a ++ b) (2 * k + 1)) h) ∙ append-nil (farIn a)
-
-pub rest-short : (a : List ℕ) → length (restIn a) < 8
-rest-short a = rw (length-drop (8 * pairsIn a) a) (omega arith)
 
 pub length-near : (a : List ℕ) → length (nearIn a) ≡ pairsIn a
 unfolding nearIn
