@@ -1,10 +1,5 @@
-//! Times the port and the Rust side by side, and prints a table.
-//!
-//! A round makes new numbers for eight calls and times each side on its own copy of them, the two going
-//! first in turn: numbers that come again would teach the processor where each branch goes. A time is the
-//! median of all rounds, for one call, or for one pair of the several in a call. A batch of a hundred rounds
-//! has a ratio, that of its own medians, and of these the table has the median, the 10th and the 90th
-//! percentile.
+//! Times the port beside the Rust, and beside SpeexDSP where it was built with it (`--cfg speexdsp`), and prints a table of each.
+//! `bench PART` times the rows alone whose name has PART in it. How a row is timed: race.rs.
 
 mod aspeyruni;
 #[allow(dead_code)] // the Rust's text, whole
@@ -16,89 +11,187 @@ mod fft;
 mod house_detector;
 mod inputs;
 mod kinds;
+mod race;
 mod reference;
 mod rust_rho;
 #[allow(dead_code)]
 mod rust_tau;
+#[cfg(speexdsp)]
+mod speex;
 #[allow(dead_code)]
 mod taken;
-#[allow(dead_code)]
-mod tau_calls;
-#[allow(dead_code)]
-mod tau_lines;
-#[allow(dead_code)]
-mod tau_reference;
 
 use aspeyruni::{rho, tau};
 use canceller::EchoCanceller;
+use config::Suppression;
 use fft::{Complex, ComplexFft, RealFft};
-use inputs::{turned, Noise};
-use kinds::{samples, Kind, LOUD, QUARTER, SOUND};
+use inputs::Noise;
+use kinds::{Kind, LOUD, QUARTER, SOUND};
+use race::{race, Plan, Times};
 use reference::{complexes, numbers, POINTS, SAMPLES, SPECTRUM};
 use rust_rho::RhoCanceller;
-use tau_reference::Continued;
 use std::array::from_fn;
+use std::env::args;
 use std::hint::black_box;
-use std::time::Instant;
-
-const CALLS: usize = 8;
-const ROUNDS: usize = 100;
-const BATCHES: usize = 100;
-
-/// Of a call that takes as long as a block of Tau.
-const FEW: usize = 20;
 
 /// Of Rho in a call.
 const PAIRS: usize = 16;
 
-/// Of Tau in a call: a block.
+/// Of Tau in a block.
 const BLOCK: usize = 256;
 
-fn main() {
-    println!("| | Rust, ns | Rattle, ns | ratio | its 10th to 90th percentile |");
-    println!("|---|---|---|---|---|");
-    forward();
-    inverse();
-    complex_forward();
-    narrow();
-    for tail in [64, 200] {
-        let taps = 16 * tail;
-        rho(
-            &format!("Rho, {taps} taps, a pair with update"),
-            tail,
-            QUARTER,
-        );
-        rho(&format!("Rho, {taps} taps, a frozen pair"), tail, LOUD);
+/// Of Tau in the rows of a block.
+const PARTITIONS: [usize; 4] = [1, 4, 13, 32];
+
+const A_TRANSFORM: Plan = Plan {
+    before: 0,
+    batches: 100,
+    inputs: 8,
+    things: 1,
+};
+
+/// After enough of them to fill the history, and to end the freeze that its first samples may bring.
+const PAIRS_OF_RHO: Plan = Plan {
+    before: 512,
+    batches: 100,
+    inputs: 8,
+    things: PAIRS,
+};
+
+/// After enough of them to establish the detector and to move the output to where the shadow is. So no block that is timed moves it.
+const A_BLOCK: Plan = Plan {
+    before: 200,
+    batches: 20,
+    inputs: 8,
+    things: 1,
+};
+
+/// 1,280 pairs, the fewest that make whole calls of 1, 16, 160 and 256 pairs each. As many blocks before as above.
+const FIVE_BLOCKS: Plan = Plan {
+    before: 40,
+    batches: 20,
+    inputs: 2,
+    things: 5,
+};
+
+/// Where two sources of numbers begin. A source goes on from input to input, so that its numbers do not come again.
+const SEED: u64 = 0x9e37_79b9_7f4a_7c15;
+const OTHER_SEED: u64 = 0x2545_f491_4f6c_dd1d;
+
+struct Row {
+    name: String,
+    run: Box<dyn FnOnce() -> Times>,
+}
+
+fn row(name: impl Into<String>, run: impl FnOnce() -> Times + 'static) -> Row {
+    Row {
+        name: name.into(),
+        run: Box::new(run),
     }
-    for partitions in [1, 4, 13, 32] {
-        for (flag, says) in [(true, "on"), (false, "off")] {
-            let name = format!("Tau, a block, P = {partitions}, suppression {says}");
-            tau(&name, partitions, flag);
+}
+
+fn main() {
+    let part = args().nth(1).unwrap_or_default();
+    let timed = table("Rust", rust_rows(), &part);
+    growth(&timed);
+    beside_speex(&part);
+}
+
+fn rust_rows() -> Vec<Row> {
+    let mut rows = vec![
+        row("forward, 512 samples", forward),
+        row("inverse, 257 bins", inverse),
+        row("complex forward, 256 points", complex_forward),
+        row("narrow, 512 numbers", narrow),
+    ];
+    for tail in [64, 200] {
+        for (near, pair) in [(QUARTER, "a pair with update"), (LOUD, "a frozen pair")] {
+            let name = format!("Rho, {} taps, {pair}", 16 * tail);
+            rows.push(row(name, move || rho(tail, near)));
         }
     }
+    for partitions in PARTITIONS {
+        for suppress in [true, false] {
+            let name = block_name(partitions, suppress);
+            rows.push(row(name, move || tau(partitions, suppress, BLOCK, A_BLOCK)));
+        }
+    }
+    for cut in [1, 16, 160, 256] {
+        let name = format!("Tau, 256 pairs in calls of {cut}, P = 4, suppression on");
+        rows.push(row(name, move || tau(4, true, cut, FIVE_BLOCKS)));
+    }
+    rows
 }
 
-/// Sound from another seed at each call.
-fn sounds() -> impl FnMut() -> Noise {
-    let mut word = 0x9e37_79b9_7f4a_7c15;
-    move || {
-        word = turned(word);
-        Noise::sound(word)
+/// bench/plot knows these rows by it.
+fn block_name(partitions: usize, suppress: bool) -> String {
+    let says = if suppress { "on" } else { "off" };
+    format!("Tau, a block, P = {partitions}, suppression {says}")
+}
+
+/// Of the rows whose name has `part` in it; of the others nothing is set up. Gives what it printed.
+fn table(other: &str, mut rows: Vec<Row>, part: &str) -> Vec<(String, Times)> {
+    rows.retain(|row| row.name.contains(part));
+    if !rows.is_empty() {
+        println!("| | {other}, ns | Rattle, ns | ratio | its 10th to 90th percentile |");
+        println!("|---|---|---|---|---|");
+    }
+    let mut timed = Vec::new();
+    for Row { name, run } in rows {
+        let times = run();
+        let ([a, b], [low, ratio, high]) = (times.sides, times.ratios);
+        println!("| {name} | {a:.0} | {b:.0} | {ratio:.2} | {low:.2} to {high:.2} |");
+        timed.push((name, times));
+    }
+    timed
+}
+
+/// What a partition adds to a block's time: the rise from the row with the fewest to that with the most, where both were timed.
+fn growth(timed: &[(String, Times)]) {
+    let [fewest, .., most] = PARTITIONS;
+    let sides = |partitions| {
+        let name = block_name(partitions, true);
+        let row = timed.iter().find(|row| row.0 == name)?;
+        Some(row.1.sides)
+    };
+    if let (Some(low), Some(high)) = (sides(fewest), sides(most)) {
+        let [rust, port] = from_fn(|side| (high[side] - low[side]) / (most - fewest) as f64);
+        println!();
+        print!("Each further partition (P = {fewest} to {most}, suppression on): ");
+        println!("Rust {rust:.0} ns, Rattle {port:.0} ns.");
     }
 }
 
-fn forward() {
-    let mut sounds = sounds();
+/// A canceller of as many taps, alone beside no suppression and with its preprocessor beside suppression.
+#[cfg(speexdsp)]
+fn beside_speex(part: &str) {
+    let mut rows = Vec::new();
+    for partitions in [4, 13] {
+        let theirs = format!("SpeexDSP, {} taps, canceller", BLOCK * partitions);
+        let ours = format!("Tau, P = {partitions}, suppression");
+        let alone = format!("{theirs} alone; {ours} off");
+        let followed = format!("{theirs} and preprocessor; {ours} on");
+        rows.push(row(alone, move || speex(partitions, false)));
+        rows.push(row(followed, move || speex(partitions, true)));
+    }
+    println!();
+    table("SpeexDSP", rows, part);
+}
+
+#[cfg(not(speexdsp))]
+fn beside_speex(_: &str) {
+    println!();
+    println!("SpeexDSP (Debian's libspeexdsp-dev) is not on this machine: no rows beside it.");
+}
+
+fn forward() -> Times {
+    let mut sound = Noise::sound(SEED);
     let mut fft = RealFft::new(SAMPLES);
     let mut bins = Vec::new();
     let mut out = [0.0; SPECTRUM];
     race(
-        "forward, 512 samples",
-        1,
-        || {
-            let mut sound = sounds();
-            from_fn(|_| sound.number() as f32)
-        },
+        A_TRANSFORM,
+        || from_fn(|_| sound.number() as f32),
         |input: &mut [f32; SAMPLES]| {
             fft.forward(input, &mut bins);
             black_box(&bins);
@@ -107,21 +200,19 @@ fn forward() {
             aspeyruni::forward(input, &mut out);
             black_box(&out);
         },
-    );
+    )
 }
 
 /// Of spectra that forward gave.
-fn inverse() {
-    let mut sounds = sounds();
+fn inverse() -> Times {
+    let mut sound = Noise::sound(SEED);
     let mut maker = RealFft::new(SAMPLES);
     let mut fft = RealFft::new(SAMPLES);
     let mut samples = Vec::new();
     let mut out = [0.0; SAMPLES];
     race(
-        "inverse, 257 bins",
-        1,
+        A_TRANSFORM,
         || {
-            let mut sound = sounds();
             let input: [f32; SAMPLES] = from_fn(|_| sound.number() as f32);
             let mut bins = Vec::new();
             maker.forward(&input, &mut bins);
@@ -136,17 +227,15 @@ fn inverse() {
             aspeyruni::inverse(flat, &mut out);
             black_box(&out);
         },
-    );
+    )
 }
 
-fn complex_forward() {
-    let mut sounds = sounds();
+fn complex_forward() -> Times {
+    let mut sound = Noise::sound(SEED);
     let fft = ComplexFft::new(POINTS / 2);
     race(
-        "complex forward, 256 points",
-        1,
+        A_TRANSFORM,
         || {
-            let mut sound = sounds();
             let flat: Vec<f64> = (0..POINTS).map(|_| sound.number()).collect();
             (complexes(&flat), flat)
         },
@@ -158,19 +247,15 @@ fn complex_forward() {
             aspeyruni::complex_forward(flat);
             black_box(&flat);
         },
-    );
+    )
 }
 
 /// The library narrows one number a call. The Rust's is an instruction, which Rattle does not have.
-fn narrow() {
-    let mut sounds = sounds();
+fn narrow() -> Times {
+    let mut sound = Noise::sound(SEED);
     race(
-        "narrow, 512 numbers",
-        1,
-        || {
-            let mut sound = sounds();
-            (from_fn(|_| sound.number()), [0.0; SAMPLES])
-        },
+        A_TRANSFORM,
+        || (from_fn(|_| sound.number()), [0.0; SAMPLES]),
         |(from, to): &mut ([f64; SAMPLES], [f32; SAMPLES])| {
             for (x, y) in from.iter().zip(to.iter_mut()) {
                 *y = *x as f32;
@@ -183,111 +268,145 @@ fn narrow() {
             }
             black_box(&to);
         },
-    );
+    )
+}
+
+/// Samples of a kind, more at each call.
+fn source(seed: u64, [base, mask]: Kind) -> impl FnMut(usize) -> Vec<f32> {
+    let mut noise = Noise {
+        word: seed,
+        base,
+        mask,
+    };
+    move |count| (0..count).map(|_| noise.sample()).collect()
 }
 
 /// A pair at 16 kHz, of a stream that goes on. Far is sound, whose peak is from 1 to 2. Near is below half of
 /// that, so that every pair updates the filter, or above it, so that every pair is frozen.
-fn rho(name: &str, tail: u16, near: Kind) {
-    let mut sounds = sounds();
-    let mut pairs = move || [near, SOUND].map(|kind| samples(sounds().word, kind, PAIRS));
+fn rho(tail: u16, near: Kind) -> Times {
+    let (mut near, mut far) = (source(OTHER_SEED, near), source(SEED, SOUND));
     let mut engine = RhoCanceller::new(16_000, tail);
     let mut state = engine.read_state();
     let mut weights = engine.read_weights().to_vec();
     let mut history = engine.read_history().to_vec();
     let mut delivered = Vec::new();
     let mut out = [0.0; PAIRS];
-    let mut rust = |[near, far]: &mut [Vec<f32>; 2]| {
-        delivered.clear();
-        let Ok(()) = engine.process(near, far, &mut delivered);
-        black_box(&delivered);
-    };
-    let mut port = |[near, far]: &mut [Vec<f32>; 2]| {
-        state = rho::process(state, &mut weights, &mut history, near, far, &mut out).state;
-        black_box(&out);
-    };
-    // until the history is full, and the freeze over that its first samples may bring
-    for _ in 0..512 {
-        let mut input = pairs();
-        rust(&mut input);
-        port(&mut input);
-    }
-    race(name, PAIRS, pairs, rust, port);
+    race(
+        PAIRS_OF_RHO,
+        || [near(PAIRS), far(PAIRS)],
+        |[near, far]| {
+            delivered.clear();
+            let Ok(()) = engine.process(near, far, &mut delivered);
+            black_box(&delivered);
+        },
+        |[near, far]| {
+            state = rho::process(state, &mut weights, &mut history, near, far, &mut out).state;
+            black_box(&out);
+        },
+    )
 }
 
-/// A block of a stream that goes on. Far is sound, and near half of it with sound of its own a hundredth as loud, so that the shadow
-/// learns and the output moves.
-fn tau(name: &str, partitions: usize, suppress: bool) {
-    let mut sounds = sounds();
-    let mut pairs = move || {
-        let far = samples(sounds().word, SOUND, BLOCK);
-        let own = samples(sounds().word, SOUND, BLOCK);
+/// A block of a stream that goes on, which comes in calls of so many pairs.
+fn tau(partitions: usize, suppress: bool, cut: usize, plan: Plan) -> Times {
+    let mut rust = RustTau::created(partitions, suppress);
+    let mut port = PortTau::created(partitions, suppress);
+    race(
+        plan,
+        echo(BLOCK * plan.things),
+        |[near, far]| {
+            for (near, far) in near.chunks(cut).zip(far.chunks(cut)) {
+                rust.process(near, far);
+            }
+        },
+        |[near, far]| {
+            for (near, far) in near.chunks(cut).zip(far.chunks(cut)) {
+                port.process(near, far);
+            }
+        },
+    )
+}
+
+/// The same stream beside SpeexDSP, which gets it in samples of 16 bits. They are made before it is timed.
+#[cfg(speexdsp)]
+fn speex(partitions: usize, suppress: bool) -> Times {
+    let mut theirs = speex::Speex::created(BLOCK * partitions, suppress);
+    let mut port = PortTau::created(partitions, suppress);
+    let mut pairs = echo(BLOCK);
+    race(
+        A_BLOCK,
+        || {
+            let pairs = pairs();
+            let words = pairs.each_ref().map(|samples| speex::words(samples));
+            (words, pairs)
+        },
+        |([near, far], _)| theirs.process(near, far),
+        |(_, [near, far])| port.process(near, far),
+    )
+}
+
+/// The next pairs of a stream, near and far. Far is sound, and near half of it with sound of its own a hundredth as loud, so that
+/// the shadow learns and the output follows it.
+fn echo(pairs: usize) -> impl FnMut() -> [Vec<f32>; 2] {
+    let (mut far, mut own) = (source(SEED, SOUND), source(OTHER_SEED, SOUND));
+    move || {
+        let (far, own) = (far(pairs), own(pairs));
         let near = own.iter().zip(&far).map(|(a, x)| 0.5 * x + 0.01 * a);
         [near.collect(), far]
-    };
-    let mut engine = Continued::created(partitions, suppress);
-    let mut buffers = [0; 3].map(|_| vec![0.0; SPECTRUM * partitions]);
-    let mut state = tau::create(partitions, suppress, buffers.each_mut().map(|b| &mut b[..])).state;
-    let mut out = [0.0; BLOCK];
-    let mut rust = |[near, far]: &mut [Vec<f32>; 2]| {
-        black_box(&engine.process(near, far));
-    };
-    let mut port = |[near, far]: &mut [Vec<f32>; 2]| {
-        let lent = buffers.each_mut().map(|b| &mut b[..]);
-        state = tau::process(state, lent, near, far, &mut out).state;
-        black_box(&out);
-    };
-    // until the detector is established, and the output has moved
-    for _ in 0..100 {
-        let mut input = pairs();
-        rust(&mut input);
-        port(&mut input);
     }
-    race(name, 1, pairs, rust, port);
 }
 
-/// One line of the table: times of a call, divided by how many things it does.
-fn race<T: Clone>(
-    name: &str,
-    things: usize,
-    mut make: impl FnMut() -> T,
-    mut rust: impl FnMut(&mut T),
-    mut port: impl FnMut(&mut T),
-) {
-    let (mut rusts, mut ports, mut ratios) = (Vec::new(), Vec::new(), Vec::new());
-    let batches = if name.starts_with("Tau") { FEW } else { BATCHES };
-    for _ in 0..batches {
-        let (mut a, mut b) = (Vec::new(), Vec::new());
-        for round in 0..ROUNDS {
-            let mut for_rust: Vec<T> = (0..CALLS).map(|_| make()).collect();
-            let mut for_port = for_rust.clone();
-            if round % 2 == 0 {
-                a.push(time(&mut for_rust, &mut rust));
-                b.push(time(&mut for_port, &mut port));
-            } else {
-                b.push(time(&mut for_port, &mut port));
-                a.push(time(&mut for_rust, &mut rust));
-            }
+/// The Rust's engine itself, completed with document 01's rules (oracle/rust). It appends to a list that is its caller's: here one
+/// for all calls, which is emptied before each, so that no call pays for a list of its own.
+struct RustTau {
+    engine: rust_tau::TauCanceller,
+    delivered: Vec<f32>,
+}
+
+impl RustTau {
+    /// At 16 kHz 16 ms are a partition.
+    fn created(partitions: usize, suppress: bool) -> RustTau {
+        let suppression = if suppress {
+            Suppression::Conservative
+        } else {
+            Suppression::Off
+        };
+        RustTau {
+            engine: rust_tau::TauCanceller::new(16_000, 16 * partitions as u16, suppression),
+            delivered: Vec::new(),
         }
-        ratios.push(percentile(&mut b, 50) / percentile(&mut a, 50));
-        rusts.extend(a);
-        ports.extend(b);
     }
-    let [rust, port] = [rusts, ports].map(|mut times| percentile(&mut times, 50) / things as f64);
-    let [low, ratio, high] = [10, 50, 90].map(|p| percentile(&mut ratios, p));
-    println!("| {name} | {rust:.0} | {port:.0} | {ratio:.2} | {low:.2} to {high:.2} |");
+
+    fn process(&mut self, near: &[f32], far: &[f32]) {
+        self.delivered.clear();
+        let Ok(()) = self.engine.process(near, far, &mut self.delivered);
+        black_box(&self.delivered);
+    }
 }
 
-/// Nanoseconds a call.
-fn time<T>(inputs: &mut [T], run: &mut impl FnMut(&mut T)) -> f64 {
-    let start = Instant::now();
-    for input in inputs.iter_mut() {
-        run(black_box(input));
-    }
-    start.elapsed().as_nanos() as f64 / inputs.len() as f64
+/// The port's state, the buffers that it is lent, and where it delivers.
+struct PortTau {
+    state: tau::TauCanceller,
+    buffers: [Vec<f64>; 3],
+    out: [f32; BLOCK],
 }
 
-fn percentile(values: &mut [f64], percent: usize) -> f64 {
-    values.sort_by(f64::total_cmp);
-    values[values.len() * percent / 100]
+impl PortTau {
+    fn created(partitions: usize, suppress: bool) -> PortTau {
+        let mut buffers = [0; 3].map(|_| vec![0.0; SPECTRUM * partitions]);
+        let lent = buffers.each_mut().map(|b| &mut b[..]);
+        PortTau {
+            state: tau::create(partitions, suppress, lent).state,
+            buffers,
+            out: [0.0; BLOCK],
+        }
+    }
+
+    /// A refused call would be a fast one.
+    fn process(&mut self, near: &[f32], far: &[f32]) {
+        let lent = self.buffers.each_mut().map(|b| &mut b[..]);
+        let answer = tau::process(self.state, lent, near, far, &mut self.out);
+        assert_eq!(answer.refusal, 0);
+        self.state = answer.state;
+        black_box(&self.out);
+    }
 }
