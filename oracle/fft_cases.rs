@@ -2,13 +2,14 @@
 //! them to crates/fft_cases/stdin, which the program `fft_cases` replays. Its src/main.rt says what the
 //! fields of a line are.
 //!
-//!     f  forward      g  over lent tables      c  complex forward
-//!     i  inverse      j  over lent tables      r  complex inverse (the reverse)
+//!     f  forward      g  over a lent table      c  complex forward
+//!     i  inverse      j  over a lent table      r  complex inverse (the reverse)
+//!     h  the first half of what j gives         l  the later half
 //!     b  both: forward, then inverse of what it gave
 //!     a  det_cos and det_sin of an angle       t  two numbers of the table
 //!
-//! In lower case a transform is run on noise, in upper case on a tone. The Rust lends no tables: `g`
-//! and `j` have the answers of `f` and `i`. It panics at a wrong length: that the answer is 2 and
+//! In lower case a transform is run on noise, in upper case on a tone. The Rust lends no table: `g`
+//! and `j` have the answers of `f` and `i`, and `h` and `l` a half of `i`'s. It panics at a wrong length: that the answer is 2 and
 //! nothing is written is document 01's rule.
 
 mod fft;
@@ -17,11 +18,14 @@ mod reference;
 
 use fft::{read_det_cos, read_det_sin, read_recombination};
 use inputs::{bits, hash, line, turned, Noise, DIGITS, SIGN, SIZES};
-use reference::{Reference, DONE, POINTS, SAMPLES, SPECTRUM};
+use reference::{Reference, DONE, POINTS, SAMPLES, SPECTRUM, WRONG_LENGTH};
 use std::f64::consts::PI;
 
 /// The size of the buffers, of which a case lends the first part.
 const COUNT: usize = 1024;
+
+/// Of the inverse's samples.
+const HALF: usize = SAMPLES / 2;
 
 /// Where no number is marked.
 const NOWHERE: u64 = COUNT as u64;
@@ -112,6 +116,19 @@ impl List {
                 *numbers = samples.map(f64::from);
                 answer
             }
+            'h' | 'l' => {
+                let mut whole = [0.0; SAMPLES];
+                let answer = match room {
+                    HALF => self.rust.inverse(&numbers[..given], &mut whole),
+                    _ => WRONG_LENGTH,
+                };
+                if answer == DONE {
+                    let first = if letter == 'l' { HALF } else { 0 };
+                    samples[..HALF].copy_from_slice(&whole[first..first + HALF]);
+                }
+                *numbers = samples.map(f64::from);
+                answer
+            }
             _ => {
                 let answer = self.run('f', numbers, [given, SPECTRUM]);
                 if answer != DONE.into() {
@@ -129,6 +146,7 @@ fn right(letter: char) -> [usize; 2] {
     match letter {
         'f' | 'g' => [SAMPLES, SPECTRUM],
         'i' | 'j' => [SPECTRUM, SAMPLES],
+        'h' | 'l' => [SPECTRUM, HALF],
         'b' => [SAMPLES, SAMPLES],
         _ => [POINTS, POINTS],
     }
@@ -146,6 +164,7 @@ fn main() {
     wrong_lengths(&mut list);
     table(&mut list);
     angles(&mut list);
+    halves(&mut list);
     print!("{}", list.text);
 }
 
@@ -234,25 +253,41 @@ fn marked(list: &mut List) {
     }
 }
 
-/// One length wrong, the other, both, and the two changed about.
 fn wrong_lengths(list: &mut List) {
-    let sound = Noise::sound(0);
     for letter in ['f', 'g', 'i', 'j', 'c', 'r', 'b'] {
-        let [given, room] = right(letter);
-        let mut lengths = vec![[room, given], [0, 0], [1024, 1024]];
-        for wrong in [0, 1, 256, 257, 511, 512, 513, 514, 515, 1023, 1024] {
-            lengths.extend([[wrong, room], [given, wrong], [wrong, wrong]]);
+        wrong(list, letter);
+    }
+}
+
+/// One length wrong, the other, both, and the two changed about.
+fn wrong(list: &mut List, letter: char) {
+    let sound = Noise::sound(0);
+    let [given, room] = right(letter);
+    let mut lengths = vec![[room, given], [0, 0], [1024, 1024]];
+    for wrong in [0, 1, 256, 257, 511, 512, 513, 514, 515, 1023, 1024] {
+        lengths.extend([[wrong, room], [given, wrong], [wrong, wrong]]);
+    }
+    if letter == 'c' || letter == 'r' {
+        lengths.retain(|[given, room]| given == room);
+    }
+    lengths.retain(|pair| *pair != right(letter));
+    lengths.sort();
+    lengths.dedup();
+    for pair in lengths {
+        let recipe = Recipe::Noise([list.seed(), sound.base, sound.mask, NOWHERE, 0]);
+        list.case(letter, recipe, pair, 0);
+    }
+}
+
+/// Either half of the inverse: each kind, and wrong lengths.
+fn halves(list: &mut List) {
+    for letter in ['h', 'l'] {
+        for (base, mask) in KINDS {
+            let recipe = Recipe::Noise([list.seed(), base, mask, NOWHERE, 0]);
+            let at = 2 * (list.seed() % 128) as usize;
+            list.case(letter, recipe, right(letter), at);
         }
-        if letter == 'c' || letter == 'r' {
-            lengths.retain(|[given, room]| given == room);
-        }
-        lengths.retain(|pair| *pair != right(letter));
-        lengths.sort();
-        lengths.dedup();
-        for pair in lengths {
-            let recipe = Recipe::Noise([list.seed(), sound.base, sound.mask, NOWHERE, 0]);
-            list.case(letter, recipe, pair, 0);
-        }
+        wrong(list, letter);
     }
 }
 

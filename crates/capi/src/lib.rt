@@ -10,7 +10,8 @@ ghost use mathlib.Core.Bool.{true, false};
 ghost use mathlib.Core.List.{[]};
 ghost use lib.Ieee.{binary32, toBits};
 ghost use Rattle.numbers.specs.Narrowing.{narrowOf};
-ghost use Rattle.fft.specs.Calls.{forwardOf, inverseOf, complexOf};
+ghost use Rattle.complex_fft.specs.Calls.{complexOf};
+ghost use Rattle.fft.specs.Calls.{forwardOf, inverseOf};
 ghost use Rattle.rho.specs.Calls.{createOf, processOf, flushOf, resetOf};
 
 #[no_mangle]
@@ -48,14 +49,14 @@ pub extern "C" fn aspeyruni_inverse(spectrum: &[f64], out: &mut [f32]) -> u32
 pub extern "C" fn aspeyruni_complex_forward(points: &mut [f64]) -> u32
     ensures { λ r. ⌜ record { answer = r; out = now (points .exit) } ≡ complexOf false (now (points .entry)) ⌝ }
 {
-    fft::complex_forward(points)
+    complex_fft::complex_forward(points)
 }
 
 #[no_mangle]
 pub extern "C" fn aspeyruni_complex_inverse(points: &mut [f64]) -> u32
     ensures { λ r. ⌜ record { answer = r; out = now (points .exit) } ≡ complexOf true (now (points .entry)) ⌝ }
 {
-    fft::complex_inverse(points)
+    complex_fft::complex_inverse(points)
 }
 
 #[no_mangle]

@@ -1,11 +1,6 @@
-pub mod Spans
 pub mod Lengths
-pub mod Places
-pub mod Reversing
-pub mod Permuted
-pub mod Stages
-pub mod Keeps
 pub mod Silence
 pub mod Sizes
-pub mod Marked
+pub mod Ends
+pub mod Scaled
 pub mod Served

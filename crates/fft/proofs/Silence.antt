@@ -9,20 +9,20 @@ use lib.ListN.{replicate, length-map}
 use lib.Ieee.{Float, fin, binary64, add, sub, mul, neg, ofBits}
 use Rattle.complex.specs.declared.Complex.{Complex}
 use Rattle.complex.specs.Complexes.{getC, addC, subC, mulC, conjC, scaleC}
-use Rattle.fft.specs.ComplexFft.{runOf}
-use Rattle.fft.specs.RealFft.{half, binOf, binsOf, halfOf, halvesOf, spectrumWith, samplesWith}
-use Rattle.fft.specs.Reversal.{reversalTable}
+use Rattle.complex_fft.specs.ComplexFft.{runOf}
+use Rattle.fft.specs.RealFft.{half, binFrom, binOf, binsOf, halfOf, halvesOf, spectrumWith, samplesWith}
+use Rattle.complex_fft.specs.Reversal.{reversalTable}
 use Rattle.fft.specs.Calls.{spectrumOf, samplesOf}
 use Rattle.laws.specs.Tables.{table2, length-table2}
 use Rattle.trig.specs.Tables.{recombination}
 use Rattle.trig.proofs.Entries.{recombination-finite, length-recombination}
-use Rattle.fft.proofs.Reversing.{at-entry}
+use Rattle.complex_fft.proofs.Reversing.{at-entry}
 use Rattle.numbers.specs.Finite.{plus, isFinite}
 use Rattle.numbers.specs.Narrowing.{narrowOf}
 use Rattle.numbers.specs.Zeros.{Zero, Faint, Plus, Finite}
 use Rattle.numbers.proofs.Zeros.{zeros, faints, pluses, faint-narrow, plus-narrow, plus-mul, zero-mul-left, finite-neg}
 use Rattle.laws.specs.Kinds.{Kept, all-table2, all-map, all-weaken, all-same}
-use Rattle.fft.proofs.Keeps.{Parts, Steady, Places, get-parts, run-keeps}
+use Rattle.complex_fft.proofs.Keeps.{Parts, Steady, Places, get-parts, run-keeps}
 
 -- ---- a list written pair by pair
 pairs-keep : {P : Float → Type 0} (f : ℕ → Complex) (n : ℕ) → ((i : ℕ) → i < n → Parts P (f i)) → Kept P (2 * n) (table2 n (λ k. f k .re) (λ k. f k .im))
@@ -101,7 +101,7 @@ narrowed-keeps {l = l} n h = record { long = length-map l narrowOf ∙ h .long; 
 
 module _ (t : List Float) (F : Kept Finite 514 t) (r : List ℕ) (R : Places r) where
   pub spectrum-zero : (x : List Float) → Kept Zero 512 x → Kept Zero 514 (spectrumWith t r x)
-  unfolding spectrumWith binsOf binOf
+  unfolding spectrumWith binsOf binOf binFrom
   spectrum-zero x h =
       let z = runOf t r false x in
       let g : Kept Zero 512 z = run-keeps zero-steady t F r R false x h in
@@ -109,7 +109,7 @@ module _ (t : List Float) (F : Kept Finite 514 t) (r : List ℕ) (R : Places r) 
       (λ k b. zero-bin (getC z (k % 256)) (getC z ((256 - k) % 256)) (getC t k) (get-parts (k % 256) g (omega arith)) (get-parts ((256 - k) % 256) g (omega arith)) (get-parts k F (omega arith)))
 
   pub spectrum-faint : (x : List Float) → Kept Faint 512 x → Kept Faint 514 (spectrumWith t r x)
-  unfolding spectrumWith binsOf binOf
+  unfolding spectrumWith binsOf binOf binFrom
   spectrum-faint x h =
       let z = runOf t r false x in
       let g : Kept Faint 512 z = run-keeps faint-steady t F r R false x h in

@@ -1,66 +1,44 @@
--- Every list that the transform gives has its length, whatever stands in it. Assumes nothing.
-use mathlib.Core.Path.{_≡_, _∙_}
-use mathlib.Core.Bool.{Bool, true}
+-- Every list that the real transform gives has its length, whatever stands in it. Assumes nothing.
+use mathlib.Core.Path.{_≡_, refl, _∙_}
+use mathlib.Core.Bool.{Bool, true, false}
 use mathlib.Core.List.{List}
-use Prim.Native.Nat.{ℕ, _+_, _*_, _/_, _^_}
-use lib.Dec.{ltb}
-use lib.Ieee.{Float, binary64, ofBits}
-use lib.ListN.{length, getD, length-map}
-use Rattle.laws.specs.Choice.{pick-if}
-use Rattle.laws.specs.Kinds.{iter-keeps}
+use Prim.Native.Nat.{ℕ}
+use lib.Ieee.{Float}
+use native.Mathlib.Omega.{arith}
+use lib.ListN.{length, take, drop, length-map, length-drop}
+use lib.Seq.{take-all}
+use Rattle.laws.specs.Choice.{pick-yes, pick-no}
 use Rattle.laws.specs.Tables.{length-table2}
 use Rattle.numbers.specs.Narrowing.{narrowOf}
-use Rattle.complex.specs.Complexes.{getC, putC, scaleC}
-use Rattle.fft.specs.ComplexFft.{swapAt, swapStep, permuted, butterflyAt, twiddleOf, blockAt, stageAt, stages, scaled, runOf}
+use Rattle.complex_fft.specs.ComplexFft.{runOf}
+use Rattle.complex_fft.proofs.Sizes.{run-long}
 use Rattle.fft.specs.RealFft.{halvesOf, binsOf, spectrumWith, samplesWith}
-use Rattle.complex.proofs.Stores.{length-put}
-use Rattle.fft.proofs.Places.{length-butterfly}
-
-module _ (n : ℕ) where
-  Long : List Float → Type 0
-  Long l = length l ≡ n
-
-  permute-long : (r : List ℕ) (l : List Float) → length l ≡ n → length (permuted r l) ≡ n
-  unfolding permuted swapStep swapAt Long
-  permute-long r l h =
-      iter-keeps Long (swapStep r) l 256 h
-      (λ k m b g. let j = getD r k 0 in pick-if Long (ltb k j) (λ _. length-put (putC m k (getC m j)) j (getC m k) ∙ length-put m k (getC m j) ∙ g) (λ _. g))
-
-  block-long : (t : List Float) (inverse : Bool) (half stride base : ℕ) (l : List Float) → length l ≡ n → length (blockAt t inverse half stride base l) ≡ n
-  unfolding blockAt Long
-  block-long t inverse half stride base l h =
-      iter-keeps Long (λ j m. butterflyAt (twiddleOf t inverse (j * stride)) (base + j) half m) l half h
-      (λ j m b g. length-butterfly m (base + j) half (twiddleOf t inverse (j * stride)) ∙ g)
-
-  stage-long : (t : List Float) (inverse : Bool) (half stride : ℕ) (l : List Float) → length l ≡ n → length (stageAt t inverse half stride l) ≡ n
-  unfolding stageAt Long
-  stage-long t inverse half stride l h =
-      iter-keeps Long (λ b m. blockAt t inverse half stride (b * (2 * half)) m) l stride h (λ b m k g. block-long t inverse half stride (b * (2 * half)) m g)
-
-  stages-long : (t : List Float) (inverse : Bool) (l : List Float) → length l ≡ n → length (stages t inverse l) ≡ n
-  unfolding stages Long
-  stages-long t inverse l h = iter-keeps Long (λ k m. stageAt t inverse (2 ^ k) (128 / 2 ^ k) m) l 8 h (λ k m b g. stage-long t inverse (2 ^ k) (128 / 2 ^ k) m g)
-
-  scaled-long : (l : List Float) → length l ≡ n → length (scaled l) ≡ n
-  unfolding scaled Long
-  scaled-long l h =
-      iter-keeps Long (λ i m. putC m i (scaleC (getC m i) (ofBits binary64 0x3f70_0000_0000_0000))) l 256 h
-      (λ k m b g. length-put m k (scaleC (getC m k) (ofBits binary64 0x3f70_0000_0000_0000)) ∙ g)
-
-  pub run-long : (t : List Float) (r : List ℕ) (inverse : Bool) (l : List Float) → length l ≡ n → length (runOf t r inverse l) ≡ n
-  unfolding runOf Long
-  run-long t r inverse l h =
-      let g = stages-long t inverse (permuted r l) (permute-long r l h) in
-      pick-if Long inverse (λ _. scaled-long (stages t inverse (permuted r l)) g) (λ _. g)
+use Rattle.fft.specs.Calls.{halfOfSamples}
 
 pub length-spectrum : (t : List Float) (r : List ℕ) (x : List Float) → length (spectrumWith t r x) ≡ 514
 unfolding spectrumWith binsOf
 length-spectrum t r x = length-table2 257 _ _
 
-halves-long : (t x : List Float) → length (halvesOf t x) ≡ 512
+pub halves-long : (t x : List Float) → length (halvesOf t x) ≡ 512
 unfolding halvesOf
 halves-long t x = length-table2 256 _ _
 
 pub length-samples : (t : List Float) (r : List ℕ) (x : List Float) → length (samplesWith t r x) ≡ 512
 unfolding samplesWith
 length-samples t r x = length-map (runOf t r true (halvesOf t x)) narrowOf ∙ run-long 512 t r true (halvesOf t x) (halves-long t x)
+
+-- 512 from the first on are all
+pub whole-samples : (t : List Float) (r : List ℕ) (x : List Float) → take 512 (drop 0 (samplesWith t r x)) ≡ samplesWith t r x
+whole-samples t r x = take-all 512 (samplesWith t r x) (omega (arith, length-samples t r x))
+
+-- 256 from the middle on are the later half, and 256 from the first on the other
+pub later-half : (t : List Float) (r : List ℕ) (x : List Float) (later : Bool) → later ≡ true
+    → take 256 (drop 256 (samplesWith t r x)) ≡ halfOfSamples later (samplesWith t r x)
+unfolding halfOfSamples
+later-half t r x later e =
+    let s = samplesWith t r x in
+    pick-yes _ _ _ e (take-all 256 (drop 256 s) (omega (arith, length-drop 256 s, length-samples t r x)))
+
+pub first-half : (x : List Float) (later : Bool) → later ≡ false → take 256 (drop 0 x) ≡ halfOfSamples later x
+unfolding halfOfSamples
+first-half x later e = pick-no _ _ _ e refl

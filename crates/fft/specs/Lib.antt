@@ -1,5 +1,3 @@
-pub mod Reversal
-pub mod ComplexFft
 pub mod RealFft
+pub mod Scratch
 pub mod Calls
-pub mod Marked

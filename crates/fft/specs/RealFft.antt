@@ -8,21 +8,24 @@ use Rattle.laws.specs.Tables.{table2}
 use Rattle.numbers.specs.Narrowing.{narrowOf}
 use Rattle.complex.specs.declared.Complex.{Complex}
 use Rattle.complex.specs.Complexes.{newC, getC, addC, subC, mulC, conjC, scaleC}
-use Rattle.fft.specs.ComplexFft.{runOf}
+use Rattle.complex_fft.specs.ComplexFft.{runOf}
 
 abbrev pub half : Float
 half = ofBits binary64 0x3fe0_0000_0000_0000
 
--- bin k of the real spectrum, of the half-length spectrum z:
+-- bin k of the real spectrum, of number k of the half-length spectrum, the number at its mirror and the table's entry k:
 -- E[k] = (Z[k] + conj(Z[256-k])) / 2, O[k] = -i (Z[k] - conj(Z[256-k])) / 2, X[k] = E[k] + W[k] O[k]
-unfoldable pub binOf : List Float → List Float → ℕ → Complex
-binOf t z k =
-    let zk = getC z (k % 256) in
-    let mirror = conjC (getC z ((256 - k) % 256)) in
+unfoldable pub binFrom : Complex → Complex → Complex → Complex
+binFrom zk other w =
+    let mirror = conjC other in
     let even = scaleC (addC zk mirror) half in
     let diff = subC zk mirror in
     let odd = newC (mul binary64 half (diff .im)) (mul binary64 (neg half) (diff .re)) in
-    addC even (mulC (getC t k) odd)
+    addC even (mulC w odd)
+
+-- of the half-length spectrum z
+unfoldable pub binOf : List Float → List Float → ℕ → Complex
+binOf t z k = binFrom (getC z (k % 256)) (getC z ((256 - k) % 256)) (getC t k)
 
 unfoldable pub binsOf : List Float → List Float → List Float
 binsOf t z = table2 257 (λ k. binOf t z k .re) (λ k. binOf t z k .im)

@@ -1,66 +1,33 @@
-// `RealFft`: 512 samples to 257 bins and back, over the transform of 256 points. The forms that end in `_with` take the tables and
-// the scratch from the caller, who lends them once for many transforms; their meaning is stated over any tables.
-use crate::DONE;
-use crate::WRONG_LENGTH;
-use crate::complex_fft::run;
-use crate::points::get;
-use crate::points::put;
-use crate::reversal::reversal_table;
+// `RealFft`: 512 samples to 257 bins and back, over the self-sorting core of the transform of 256 points. The forms that end in `_with`
+// take the table and a scratch from the caller, who lends them once for many transforms; their meaning is stated over any table. What
+// the scratch holds after a transform is nobody's business but the core's.
 use complex::Complex;
+use complex_fft::DONE;
+use complex_fft::WRONG_LENGTH;
+use complex_fft::points::get;
+use complex_fft::points::put;
+use self_sorting::all_passes;
+use self_sorting::get_split;
+use self_sorting::put_split;
 ghost use mathlib.Core.Path.{_≡_};
-ghost use mathlib.Core.Bool.{true, false};
-ghost use mathlib.Core.List.{map};
-ghost use Prim.Native.Nat.{_+_, _*_, _≤_};
-ghost use lib.ListN.{length};
-ghost use Rattle.numbers.specs.Narrowing.{narrowOf};
-ghost use Rattle.fft.specs.ComplexFft.{runOf};
-ghost use Rattle.fft.specs.Calls.{forwardOf, forwardWithOf, inverseOf, inverseWithOf, lentOf};
-ghost use Rattle.fft.specs.RealFft.{binOf, binsOf, halfOf, halvesOf, spectrumWith, samplesWith};
+ghost use Prim.Native.Nat.{_+_, _*_, _-_, _%_, _≤_};
+ghost use lib.ListN.{length, take, drop};
+ghost use Rattle.complex_fft.specs.Reversal.{reversalTable};
+ghost use Rattle.self_sorting.specs.Passes.{loaded, pointsOf};
+ghost use Rattle.fft.specs.Calls.{forwardOf, forwardWithOf, inverseOf, inverseWithOf, halfWithOf, lentOf};
+ghost use Rattle.fft.specs.RealFft.{binFrom, binOf, binsOf, halfOf, halvesOf, spectrumWith, samplesWith};
+ghost use Rattle.fft.specs.Scratch.{scaledFrom};
 
-// The even samples are the real parts and the odd ones the imaginary: number by number that is a copy.
-fn pack(input: &[f32], points: &mut [f64])
+// The even samples are the real parts and the odd ones the imaginary: they go straight into the core's scratch.
+fn load_samples(input: &[f32], z: &mut [f64])
     requires { ⌜ length (now input) ≡ 512 ⌝ }
-    requires { ⌜ length (now points) ≡ 512 ⌝ }
-    ensures { λ _. ⌜ now (points .exit) ≡ now (input .entry) ⌝ }
+    requires { ⌜ length (now z) ≡ 1024 ⌝ }
+    ensures { λ _. ⌜ now (z .exit) ≡ loaded (now (input .entry)) (now (z .entry)) ⌝ }
 {
-    for i in 0..512 {
-        let x = numbers::widen(input[i]);
-        points[i] = x;
-    }
-}
-
-fn unpack(points: &[f64], out: &mut [f32])
-    requires { ⌜ length (now points) ≡ 512 ⌝ }
-    requires { ⌜ length (now out) ≡ 512 ⌝ }
-    ensures { λ _. ⌜ now (out .exit) ≡ map narrowOf (now (points .entry)) ⌝ }
-{
-    narrow_list::narrow_into(points, out);
-}
-
-// Bin k of the real spectrum, of the half-length one.
-fn bin(points: &[f64], table: &[f64], k: usize) -> Complex
-    requires { ⌜ length (now points) ≡ 512 ⌝ }
-    requires { ⌜ length (now table) ≡ 514 ⌝ }
-    requires { ⌜ k ≤ 256 ⌝ }
-    ensures { λ r. ⌜ r ≡ binOf (now (table .entry)) (now (points .entry)) k ⌝ }
-{
-    let z_k = get(points, k % 256);
-    let z_mirror = get(points, (256 - k) % 256).conj();
-    let even = z_k.add(z_mirror).scale(0.5);
-    let diff = z_k.sub(z_mirror);
-    let odd = Complex::new(0.5 * diff.im, -0.5 * diff.re);
-    even.add(get(table, k).mul(odd))
-}
-
-fn recombine(points: &[f64], table: &[f64], out: &mut [f64])
-    requires { ⌜ length (now points) ≡ 512 ⌝ }
-    requires { ⌜ length (now table) ≡ 514 ⌝ }
-    requires { ⌜ length (now out) ≡ 514 ⌝ }
-    ensures { λ _. ⌜ now (out .exit) ≡ binsOf (now (table .entry)) (now (points .entry)) ⌝ }
-{
-    for k in 0..257 {
-        let c = bin(points, table, k);
-        put(out, k, c);
+    for i in 0..256 {
+        let re = numbers::widen(input[2 * i]);
+        let im = numbers::widen(input[2 * i + 1]);
+        put_split(z, i, Complex::new(re, im));
     }
 }
 
@@ -79,44 +46,104 @@ fn half_bin(spectrum: &[f64], table: &[f64], k: usize) -> Complex
     Complex::new(even.re - odd.im, even.im + odd.re)
 }
 
-fn halve(spectrum: &[f64], table: &[f64], points: &mut [f64])
+// The half-length spectrum, straight into the core's scratch.
+fn load_halves(spectrum: &[f64], table: &[f64], z: &mut [f64])
     requires { ⌜ length (now spectrum) ≡ 514 ⌝ }
     requires { ⌜ length (now table) ≡ 514 ⌝ }
-    requires { ⌜ length (now points) ≡ 512 ⌝ }
-    ensures { λ _. ⌜ now (points .exit) ≡ halvesOf (now (table .entry)) (now (spectrum .entry)) ⌝ }
+    requires { ⌜ length (now z) ≡ 1024 ⌝ }
+    ensures { λ _. ⌜ now (z .exit) ≡ loaded (halvesOf (now (table .entry)) (now (spectrum .entry))) (now (z .entry)) ⌝ }
 {
-    for k in 0..256 {
-        let c = half_bin(spectrum, table, k);
-        put(points, k, c);
+    for i in 0..256 {
+        let c = half_bin(spectrum, table, i);
+        put_split(z, i, c);
     }
 }
 
-fn spectrum_of(points: &mut [f64], table: &[f64], reversal: &[u8], input: &[f32], out: &mut [f64])
-    requires { ⌜ length (now points) ≡ 512 ⌝ }
-    requires { ⌜ length (now table) ≡ 514 ⌝ }
-    requires { ⌜ length (now reversal) ≡ 256 ⌝ }
-    requires { ⌜ length (now input) ≡ 512 ⌝ }
-    requires { ⌜ length (now out) ≡ 514 ⌝ }
-    ensures { λ _. ⌜ now (points .exit) ≡ runOf (now (table .entry)) (now (reversal .entry)) false (now (input .entry)) ⌝ }
-    ensures { λ _. ⌜ now (out .exit) ≡ spectrumWith (now (table .entry)) (now (reversal .entry)) (now (input .entry)) ⌝ }
+// Bin k of the real spectrum, of number k of the half-length one, of the number at its mirror and of the table's entry k.
+fn bin_from(this: Complex, other: Complex, twiddle: Complex) -> Complex
+    ensures { λ r. ⌜ r ≡ binFrom this other twiddle ⌝ }
 {
-    pack(input, points);
-    run(points, table, reversal, false);
-    recombine(points, table, out);
+    let mirror = other.conj();
+    let even = this.add(mirror).scale(0.5);
+    let diff = this.sub(mirror);
+    let odd = Complex::new(0.5 * diff.im, -0.5 * diff.re);
+    even.add(twiddle.mul(odd))
 }
 
-fn samples_of(points: &mut [f64], table: &[f64], reversal: &[u8], spectrum: &[f64], out: &mut [f32])
-    requires { ⌜ length (now points) ≡ 512 ⌝ }
+// Bin k of the transformed points in the scratch. The places are the caller's, so that none of them is computed by a remainder.
+fn bin(z: &[f64], table: &[f64], k: usize, here: usize, mirror: usize) -> Complex
+    requires { ⌜ length (now z) ≡ 1024 ⌝ }
     requires { ⌜ length (now table) ≡ 514 ⌝ }
-    requires { ⌜ length (now reversal) ≡ 256 ⌝ }
-    requires { ⌜ length (now spectrum) ≡ 514 ⌝ }
-    requires { ⌜ length (now out) ≡ 512 ⌝ }
-    ensures { λ _. ⌜ now (points .exit) ≡ runOf (now (table .entry)) (now (reversal .entry)) true (halvesOf (now (table .entry)) (now (spectrum .entry))) ⌝ }
-    ensures { λ _. ⌜ now (out .exit) ≡ samplesWith (now (table .entry)) (now (reversal .entry)) (now (spectrum .entry)) ⌝ }
+    requires { ⌜ k ≤ 256 ⌝ }
+    requires { ⌜ (here ≡ k % 256) × (mirror ≡ (256 - k) % 256) ⌝ }
+    ensures { λ r. ⌜ r ≡ binOf (now (table .entry)) (pointsOf (now (z .entry))) k ⌝ }
 {
-    halve(spectrum, table, points);
-    run(points, table, reversal, true);
-    unpack(points, out);
+    let this = get_split(z, here);
+    let other = get_split(z, mirror);
+    bin_from(this, other, get(table, k))
+}
+
+// The two ends apart: between them no place wraps around.
+fn recombine(z: &[f64], table: &[f64], out: &mut [f64])
+    requires { ⌜ length (now z) ≡ 1024 ⌝ }
+    requires { ⌜ length (now table) ≡ 514 ⌝ }
+    requires { ⌜ length (now out) ≡ 514 ⌝ }
+    ensures { λ _. ⌜ now (out .exit) ≡ binsOf (now (table .entry)) (pointsOf (now (z .entry))) ⌝ }
+{
+    let first = bin(z, table, 0, 0, 0);
+    put(out, 0, first);
+    for k in 1..256 {
+        let c = bin(z, table, k, k, 256 - k);
+        put(out, k, c);
+    }
+    let last = bin(z, table, 256, 0, 0);
+    put(out, 256, last);
+}
+
+fn spectrum_of(z: &mut [f64], table: &[f64], input: &[f32], out: &mut [f64])
+    requires { ⌜ length (now z) ≡ 1024 ⌝ }
+    requires { ⌜ length (now table) ≡ 514 ⌝ }
+    requires { ⌜ length (now input) ≡ 512 ⌝ }
+    requires { ⌜ length (now out) ≡ 514 ⌝ }
+    ensures { λ _. ⌜ now (out .exit) ≡ spectrumWith (now (table .entry)) reversalTable (now (input .entry)) ⌝ }
+{
+    load_samples(input, z);
+    all_passes(z, table, false);
+    recombine(z, table, out);
+}
+
+// n points from `first` on times 1/256, which the inverse carries whole, part by part into the scratch's second half.
+fn scale_points(z: &mut [f64], first: usize, n: usize)
+    requires { ⌜ length (now z) ≡ 1024 ⌝ }
+    requires { ⌜ first + n ≤ 256 ⌝ }
+    ensures { λ _. ⌜ now (z .exit) ≡ scaledFrom first n (now (z .entry)) ⌝ }
+{
+    for i in 0..n {
+        let c = get_split(z, first + i);
+        put(z, 256 + i, c.scale(0.00390625));
+    }
+}
+
+// The samples of n points from `first` on: only these are narrowed.
+fn samples_of(
+    z: &mut [f64],
+    table: &[f64],
+    spectrum: &[f64],
+    first: usize,
+    n: usize,
+    out: &mut [f32],
+)
+    requires { ⌜ length (now z) ≡ 1024 ⌝ }
+    requires { ⌜ length (now table) ≡ 514 ⌝ }
+    requires { ⌜ length (now spectrum) ≡ 514 ⌝ }
+    requires { ⌜ (first + n ≤ 256) × (length (now out) ≡ 2 * n) ⌝ }
+    ensures { λ _. ⌜ now (out .exit) ≡ take (2 * n) (drop (2 * first) (samplesWith (now (table .entry)) reversalTable (now (spectrum .entry)))) ⌝ }
+{
+    load_halves(spectrum, table, z);
+    all_passes(z, table, true);
+    scale_points(z, first, n);
+    let end = 512 + 2 * n;
+    narrow_list::narrow_into(&z[512..end], out);
 }
 
 // 512 samples to 257 bins. 0, or 2 with nothing written where a length is wrong.
@@ -130,10 +157,9 @@ pub fn forward(input: &[f32], out: &mut [f64]) -> u32
         return WRONG_LENGTH;
     }
     let table = trig::recombination();
-    let reversal = reversal_table();
     let zero = Complex::ZERO;
-    let mut points = [zero.re; 512];
-    spectrum_of(&mut points, &table, &reversal, input, out);
+    let mut scratch = [zero.re; 1024];
+    spectrum_of(&mut scratch, &table, input, out);
     DONE
 }
 
@@ -148,38 +174,28 @@ pub fn inverse(spectrum: &[f64], out: &mut [f32]) -> u32
         return WRONG_LENGTH;
     }
     let table = trig::recombination();
-    let reversal = reversal_table();
     let zero = Complex::ZERO;
-    let mut points = [zero.re; 512];
-    samples_of(&mut points, &table, &reversal, spectrum, out);
+    let mut scratch = [zero.re; 1024];
+    samples_of(&mut scratch, &table, spectrum, 0, 256, out);
     DONE
 }
 
-// Whether the tables have the needed lengths and the scratch 1,024 numbers. The points take the first half of it; the second
-// is room for a core that works from one half to the other.
-fn lent(table: &[f64], reversal: &[u8], scratch: &[f64]) -> bool
-    ensures { λ r. ⌜ r ≡ lentOf (now (table .entry)) (now (reversal .entry)) (now (scratch .entry)) ⌝ }
+// Whether the table has the needed length and the scratch 1,024 numbers, two halves for the core to work between.
+fn lent(table: &[f64], scratch: &[f64]) -> bool
+    ensures { λ r. ⌜ r ≡ lentOf (now (table .entry)) (now (scratch .entry)) ⌝ }
 {
     if table.len() != 514 {
-        return false;
-    }
-    if reversal.len() != 256 {
         return false;
     }
     scratch.len() == 1024
 }
 
-// `forward` over lent tables and scratch.
-pub fn forward_with(
-    table: &[f64],
-    reversal: &[u8],
-    scratch: &mut [f64],
-    samples: &[f32],
-    bins: &mut [f64],
-) -> u32
-    ensures { λ r. ⌜ record { answer = r; scratch = now (scratch .exit); out = now (bins .exit) } ≡ forwardWithOf (now (table .entry)) (now (reversal .entry)) (now (scratch .entry)) (now (samples .entry)) (now (bins .entry)) ⌝ }
+// `forward` over a lent table and scratch.
+pub fn forward_with(table: &[f64], scratch: &mut [f64], samples: &[f32], bins: &mut [f64]) -> u32
+    ensures { λ r. ⌜ record { answer = r; out = now (bins .exit) } ≡ forwardWithOf (now (table .entry)) (now (scratch .entry)) (now (samples .entry)) (now (bins .entry)) ⌝ }
+    ensures { λ r. ⌜ (r ≡ 2 → now (scratch .exit) ≡ now (scratch .entry)) ⌝ }
 {
-    if !lent(table, reversal, scratch) {
+    if !lent(table, scratch) {
         return WRONG_LENGTH;
     }
     if samples.len() != 512 {
@@ -188,21 +204,16 @@ pub fn forward_with(
     if bins.len() != 514 {
         return WRONG_LENGTH;
     }
-    spectrum_of(&mut scratch[..512], table, reversal, samples, bins);
+    spectrum_of(scratch, table, samples, bins);
     DONE
 }
 
-// `inverse` over lent tables and scratch.
-pub fn inverse_with(
-    table: &[f64],
-    reversal: &[u8],
-    scratch: &mut [f64],
-    source: &[f64],
-    target: &mut [f32],
-) -> u32
-    ensures { λ r. ⌜ record { answer = r; scratch = now (scratch .exit); out = now (target .exit) } ≡ inverseWithOf (now (table .entry)) (now (reversal .entry)) (now (scratch .entry)) (now (source .entry)) (now (target .entry)) ⌝ }
+// `inverse` over a lent table and scratch.
+pub fn inverse_with(table: &[f64], scratch: &mut [f64], source: &[f64], target: &mut [f32]) -> u32
+    ensures { λ r. ⌜ record { answer = r; out = now (target .exit) } ≡ inverseWithOf (now (table .entry)) (now (scratch .entry)) (now (source .entry)) (now (target .entry)) ⌝ }
+    ensures { λ r. ⌜ (r ≡ 2 → now (scratch .exit) ≡ now (scratch .entry)) ⌝ }
 {
-    if !lent(table, reversal, scratch) {
+    if !lent(table, scratch) {
         return WRONG_LENGTH;
     }
     if source.len() != 514 {
@@ -211,6 +222,34 @@ pub fn inverse_with(
     if target.len() != 512 {
         return WRONG_LENGTH;
     }
-    samples_of(&mut scratch[..512], table, reversal, source, target);
+    samples_of(scratch, table, source, 0, 256, target);
+    DONE
+}
+
+// The first or the later 256 samples of the inverse, over a lent table and scratch: who needs one half pays for one.
+pub fn inverse_half_with(
+    table: &[f64],
+    scratch: &mut [f64],
+    source: &[f64],
+    later: bool,
+    half: &mut [f32],
+) -> u32
+    ensures { λ r. ⌜ record { answer = r; out = now (half .exit) } ≡ halfWithOf (now (table .entry)) (now (scratch .entry)) (now (source .entry)) later (now (half .entry)) ⌝ }
+    ensures { λ r. ⌜ (r ≡ 2 → now (scratch .exit) ≡ now (scratch .entry)) ⌝ }
+{
+    if !lent(table, scratch) {
+        return WRONG_LENGTH;
+    }
+    if source.len() != 514 {
+        return WRONG_LENGTH;
+    }
+    if half.len() != 256 {
+        return WRONG_LENGTH;
+    }
+    if later {
+        samples_of(scratch, table, source, 128, 128, half);
+    } else {
+        samples_of(scratch, table, source, 0, 128, half);
+    }
     DONE
 }

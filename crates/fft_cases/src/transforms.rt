@@ -11,8 +11,8 @@ pub enum Ran {
     Nothing,
 }
 
-// A letter in upper case differs only in how the numbers are made. `b` is both ways, and `g` and `j` are `f` and `i` over lent
-// tables.
+// A letter in upper case differs only in how the numbers are made. `b` is both ways, `g` and `j` are `f` and `i` over a lent table, and
+// `h` and `l` the first and the later half of what `j` gives.
 pub fn run(letter: u8, buffer: &mut [f64], given: usize, room: usize) -> Ran
     requires { ⌜ length (now buffer) ≡ 1024 ⌝ }
     requires { ⌜ given ≤ 1024 ⌝ }
@@ -23,9 +23,11 @@ pub fn run(letter: u8, buffer: &mut [f64], given: usize, room: usize) -> Ran
         b'g' | b'G' => answer(forward_with(buffer, given, room)),
         b'i' | b'I' => answer(inverse(buffer, given, room)),
         b'j' | b'J' => answer(inverse_with(buffer, given, room)),
+        b'h' | b'H' => answer(inverse_half_with(buffer, given, false, room)),
+        b'l' | b'L' => answer(inverse_half_with(buffer, given, true, room)),
         b'b' | b'B' => answer(both_ways(buffer, given, room)),
-        b'c' | b'C' => answer(fft::complex_forward(&mut buffer[..given])),
-        b'r' | b'R' => answer(fft::complex_inverse(&mut buffer[..given])),
+        b'c' | b'C' => answer(complex_fft::complex_forward(&mut buffer[..given])),
+        b'r' | b'R' => answer(complex_fft::complex_inverse(&mut buffer[..given])),
         _ => Ran::Nothing,
     }
 }
@@ -62,17 +64,10 @@ fn forward_with(buffer: &mut [f64], given: usize, room: usize) -> u32
     requires { ⌜ room ≤ 1024 ⌝ }
 {
     let table = trig::recombination();
-    let reversal = fft::reversal_table();
     let mut scratch = [0.0; 1024];
     let mut samples = [0.0f32; 1024];
     narrow_all(buffer, &mut samples);
-    fft::forward_with(
-        &table,
-        &reversal,
-        &mut scratch,
-        &samples[..given],
-        &mut buffer[..room],
-    )
+    fft::forward_with(&table, &mut scratch, &samples[..given], &mut buffer[..room])
 }
 
 fn inverse_with(buffer: &mut [f64], given: usize, room: usize) -> u32
@@ -81,15 +76,28 @@ fn inverse_with(buffer: &mut [f64], given: usize, room: usize) -> u32
     requires { ⌜ room ≤ 1024 ⌝ }
 {
     let table = trig::recombination();
-    let reversal = fft::reversal_table();
     let mut scratch = [0.0; 1024];
     let mut samples = [0.0f32; 1024];
     narrow_all(buffer, &mut samples);
-    let number = fft::inverse_with(
+    let number = fft::inverse_with(&table, &mut scratch, &buffer[..given], &mut samples[..room]);
+    widen_all(&samples, buffer);
+    number
+}
+
+fn inverse_half_with(buffer: &mut [f64], given: usize, later: bool, room: usize) -> u32
+    requires { ⌜ length (now buffer) ≡ 1024 ⌝ }
+    requires { ⌜ given ≤ 1024 ⌝ }
+    requires { ⌜ room ≤ 1024 ⌝ }
+{
+    let table = trig::recombination();
+    let mut scratch = [0.0; 1024];
+    let mut samples = [0.0f32; 1024];
+    narrow_all(buffer, &mut samples);
+    let number = fft::inverse_half_with(
         &table,
-        &reversal,
         &mut scratch,
         &buffer[..given],
+        later,
         &mut samples[..room],
     );
     widen_all(&samples, buffer);

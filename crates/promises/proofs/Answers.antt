@@ -15,7 +15,7 @@ pub complexes : Complexes
 complexes x y a b = (one _, one _, one _, one _, one _, one _)
 
 pub transforms : Transforms
-transforms x t out s r inverse = (one _, one _, one _, one _, one _)
+transforms x t out s inverse later = (one _, one _, one _, one _, one _, one _)
 
 pub rho : Rho
 rho rate tail e near far out = (one _, one _, one _, one _)

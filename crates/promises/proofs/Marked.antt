@@ -1,6 +1,6 @@
 -- M1 to M12. Assumes nothing.
 use Rattle.numbers.proofs.Marked.{m1, m2, m3, m4, m5, m6}
-use Rattle.fft.proofs.Marked.{m7}
+use Rattle.complex_fft.proofs.Marked.{m7}
 use Rattle.trig.proofs.Marked.{m8, m9}
 use Rattle.rho.proofs.Marked.{m10}
 use Rattle.tau_steps.proofs.Marked.{m11}

@@ -18,7 +18,8 @@ use Rattle.trig.specs.Trig.{detSin, detCos}
 use Rattle.trig.specs.Tables.{recombination}
 use Rattle.complex.specs.declared.Complex.{Complex}
 use Rattle.complex.specs.Complexes.{newC, conjC, addC, subC, mulC, scaleC}
-use Rattle.fft.specs.Reversal.{reversalTable}
+use Rattle.complex_fft.specs.Reversal.{reversalTable}
+use Rattle.complex_fft.specs.Calls.{complexOf}
 use Rattle.fft.specs.Calls as fft
 use Rattle.rho.specs.Sample as sample
 use Rattle.rho.specs.Calls as rho
@@ -62,12 +63,13 @@ Complexes = (x y : Float) (a b : Complex) → One (newC x y) × One (conjC a) ×
 
 -- the transform
 abbrev pub Transforms : Type 0
-Transforms = (x t out s : List Float) (r : List ℕ) (inverse : Bool)
+Transforms = (x t out s : List Float) (inverse later : Bool)
     → One (fft.forwardOf x out)
     × One (fft.inverseOf x out)
-    × One (fft.complexOf inverse x)
-    × One (fft.forwardWithOf t r s x out)
-    × One (fft.inverseWithOf t r s x out)
+    × One (complexOf inverse x)
+    × One (fft.forwardWithOf t s x out)
+    × One (fft.inverseWithOf t s x out)
+    × One (fft.halfWithOf t s x later out)
 
 -- RhoCanceller
 abbrev pub Rho : Type 0

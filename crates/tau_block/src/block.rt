@@ -1,11 +1,11 @@
 // One block: document 01's nine steps in their order. A condition of a step goes to it as a `bool`, so that nothing branches here.
 use crate::far::hear;
+use crate::filter::Checked;
 use crate::filter::Estimated;
 use crate::filter::Shadowed;
 use crate::filter::output_estimate;
 use crate::filter::shadow_estimate;
 use crate::suppressor::suppress;
-use crate::update::Updated;
 use crate::update::adapt_shadow;
 use tau_steps::detector::DTD_ESTABLISH_BLOCKS;
 use tau_steps::detector::double_talk_block;
@@ -15,19 +15,24 @@ use tau_steps::paths::compare;
 use tau_steps::powers::host_powers;
 use tau_steps::report::Outcome;
 use tau_steps::state::Detector;
+use tau_steps::state::Far;
+use tau_steps::state::FarRest;
 use tau_steps::state::Guard;
 use tau_steps::state::Mic;
+use tau_steps::state::MicRest;
 use tau_steps::state::Paths;
 use tau_steps::state::Powers;
 use tau_steps::state::Suppressor;
 use tau_steps::state::TauCanceller;
 use tau_steps::sums::energy;
 ghost use mathlib.Core.Path.{_≡_};
+ghost use mathlib.Core.List.{[]};
 ghost use Prim.Native.Nat.{_≤_, _<_, _*_};
 ghost use lib.ListN.{length};
 ghost use Rattle.trig.specs.Tables.{recombination};
-ghost use Rattle.fft.specs.Reversal.{reversalTable};
-ghost use Rattle.tau_block.specs.Block.{filtered, compares, delivered, gathered, listen, runBlock};
+ghost use Rattle.tau_steps.specs.Lent.{suppressorOf, farOf, micOf, stateOf};
+ghost use Rattle.tau_block.specs.Lent.{shadowedOf, estimatedOf, deliveredOf, noSuppressor, bare};
+ghost use Rattle.tau_block.specs.Block.{filtered, compares, delivered, listen, runBlock};
 
 pub struct Filtered {
     pub shadow: Shadowed,
@@ -60,34 +65,92 @@ pub struct Blocked {
     pub outcome: Outcome,
 }
 
+pub struct BothChecked {
+    pub shadow: Checked,
+    pub output: Checked,
+}
+
+pub struct DeliveredRest {
+    pub guard: Guard,
+    pub paths: Paths,
+    pub divergence_resets: u64,
+    pub powers: Powers,
+}
+
+pub struct ListenedRest {
+    pub mic: MicRest,
+    pub outcome: Outcome,
+}
+
+pub struct BlockedRest {
+    pub far: FarRest,
+    pub mic: MicRest,
+    pub outcome: Outcome,
+}
+
 // Steps 2 and 3.
 fn filter(
-    tw: &[f64; 514],
-    rev: &[u8; 256],
-    tmp: &mut [f64; 1024],
+    table: &[f64; 514],
+    scratch: &mut [f64; 1024],
+    bins: &mut [f64; 514],
     parts: usize,
     head: usize,
-    xs: &[f64],
-    near: [f32; 256],
-    m: Mic,
+    spectra: &[f64],
+    near: &[f32; 256],
+    mic: MicRest,
+    echo_power: &mut [f64; 257],
+    error_power: &mut [f64; 257],
+    gain: &mut [f64; 257],
+    window: &[f32; 512],
+    estimate: &mut [f32; 256],
+    shadow_error: &mut [f32; 256],
+    block: &mut [f32; 256],
     shadow: &mut [f64],
     output: &mut [f64],
-) -> Filtered
-    requires { ⌜ now tw ≡ recombination ⌝ }
-    requires { ⌜ now rev ≡ reversalTable ⌝ }
-    requires { ⌜ (length (now shadow) ≡ 514 * parts) × (length (now output) ≡ 514 * parts) × (length (now xs) ≡ 514 * parts) × (head < parts) × (parts ≤ 32) ⌝ }
-    ensures { λ r. ⌜ record { answer = r; shadow = now (shadow .exit); output = now (output .exit) } ≡ filtered parts head (now (xs .entry)) near m (now (shadow .entry)) (now (output .entry)) ⌝ }
+) -> BothChecked
+    requires { ⌜ now table ≡ recombination ⌝ }
+    requires { ⌜ (length (now shadow) ≡ 514 * parts) × (length (now output) ≡ 514 * parts) × (length (now spectra) ≡ 514 * parts) × (head < parts) × (parts ≤ 32) ⌝ }
+    ensures { λ r. ⌜ record { answer = record { shadow = shadowedOf (r .shadow) (now (estimate .exit)) (now («shadow_error» .exit)); output = estimatedOf (r .output) (suppressorOf (now («echo_power» .exit)) (now («error_power» .exit)) (now (gain .exit)) (now (window .entry))) (now (bins .exit)) (now (block .exit)) }; shadow = now (shadow .exit); output = now (output .exit) } ≡ filtered parts head (now (spectra .entry)) (now (near .entry)) (micOf mic [] (suppressorOf (now («echo_power» .entry)) (now («error_power» .entry)) (now (gain .entry)) (now (window .entry)))) (now (shadow .entry)) (now (output .entry)) ⌝ }
 {
-    let p = m.paths;
-    let u = m.suppressor;
-    let n = m.divergence_resets;
-    let a = shadow_estimate(tw, rev, tmp, parts, head, xs, near, p, n, shadow);
-    let q = a.paths;
-    let k = a.divergence_resets;
-    let b = output_estimate(tw, rev, tmp, parts, head, xs, near, q, u, k, shadow, output);
-    Filtered {
-        shadow: a,
-        output: b,
+    let paths = mic.paths;
+    let resets = mic.divergence_resets;
+    let shadow_checked = shadow_estimate(
+        table,
+        scratch,
+        bins,
+        parts,
+        head,
+        spectra,
+        near,
+        paths,
+        resets,
+        estimate,
+        shadow_error,
+        shadow,
+    );
+    let paths_left = shadow_checked.paths;
+    let resets_left = shadow_checked.divergence_resets;
+    let output_checked = output_estimate(
+        table,
+        scratch,
+        bins,
+        parts,
+        head,
+        spectra,
+        near,
+        paths_left,
+        resets_left,
+        echo_power,
+        error_power,
+        gain,
+        window,
+        block,
+        shadow,
+        output,
+    );
+    BothChecked {
+        shadow: shadow_checked,
+        output: output_checked,
     }
 }
 
@@ -98,160 +161,299 @@ fn judge(
     near: &[f32; 256],
     near_energy: f64,
     valid: usize,
-    f: Filtered,
-    m: Mic,
+    checked: BothChecked,
+    mic: MicRest,
+    estimate: &[f32; 256],
+    shadow_error: &[f32; 256],
+    error: &[f32; 256],
     shadow: &mut [f64],
     output: &mut [f64],
 ) -> Judged
     requires { ⌜ valid ≤ 256 ⌝ }
     requires { ⌜ length (now shadow) ≡ length (now output) ⌝ }
-    ensures { λ r. ⌜ record { answer = r; shadow = now (shadow .exit); output = now (output .exit) } ≡ compares adapt active (now (near .entry)) «near_energy» valid f m (now (shadow .entry)) (now (output .entry)) ⌝ }
+    ensures { λ r. ⌜ record { answer = r; shadow = now (shadow .exit); output = now (output .exit) } ≡ compares adapt active (now (near .entry)) «near_energy» valid (record { shadow = shadowedOf (checked .shadow) (now (estimate .entry)) (now («shadow_error» .entry)); output = estimatedOf (checked .output) noSuppressor [] (now (error .entry)) }) (bare mic) (now (shadow .entry)) (now (output .entry)) ⌝ }
 {
-    let a = f.shadow;
-    let b = f.output;
-    let estimate = a.estimate;
-    let shadow_error = a.error;
-    let error = b.error;
-    let d = double_talk_block(m.detector, active, near_energy, near, &estimate, valid);
-    let established = DTD_ESTABLISH_BLOCKS <= d.dtd_blocks;
-    let on = adapt & !b.diverged & active & established;
-    let quiet = !d.dtd_collapsed & !d.protect_output;
-    let p = b.paths;
-    let n = m.transfers;
-    let c = compare(
-        on,
+    let output_checked = checked.output;
+    let detector = double_talk_block(mic.detector, active, near_energy, near, estimate, valid);
+    let established = DTD_ESTABLISH_BLOCKS <= detector.dtd_blocks;
+    let compares = adapt & !output_checked.diverged & active & established;
+    let quiet = !detector.dtd_collapsed & !detector.protect_output;
+    let paths = output_checked.paths;
+    let transfers = mic.transfers;
+    let compared = compare(
+        compares,
         quiet,
-        &shadow_error,
-        &error,
+        shadow_error,
+        error,
         valid,
-        p,
-        n,
+        paths,
+        transfers,
         shadow,
         output,
     );
-    Judged {
-        detector: d,
-        compared: c,
-    }
+    Judged { detector, compared }
 }
 
 // Steps 7, 8 and 9.
 fn deliver(
-    tw: &[f64; 514],
-    rev: &[u8; 256],
-    tmp: &mut [f64; 1024],
+    table: &[f64; 514],
+    scratch: &mut [f64; 1024],
     on: bool,
     protect: bool,
     near: &[f32; 256],
     near_energy: f64,
     valid: usize,
-    b: Estimated,
-    m: Mic,
-    p: Paths,
+    checked: Checked,
+    bins: &[f64; 514],
+    mic: MicRest,
+    paths: Paths,
     resets: u64,
+    echo_power: &mut [f64; 257],
+    error_power: &mut [f64; 257],
+    gain: &mut [f64; 257],
+    window: &mut [f32; 512],
+    block: &mut [f32; 256],
     output: &mut [f64],
-) -> Delivered
-    requires { ⌜ now tw ≡ recombination ⌝ }
-    requires { ⌜ now rev ≡ reversalTable ⌝ }
+) -> DeliveredRest
+    requires { ⌜ now table ≡ recombination ⌝ }
     requires { ⌜ valid ≤ 256 ⌝ }
-    ensures { λ r. ⌜ record { answer = r; buffer = now (output .exit) } ≡ delivered on protect (now (near .entry)) «near_energy» valid b m p resets (now (output .entry)) ⌝ }
+    ensures { λ r. ⌜ record { answer = deliveredOf r (suppressorOf (now («echo_power» .exit)) (now («error_power» .exit)) (now (gain .exit)) (now (window .exit))) (now (block .exit)); buffer = now (output .exit) } ≡ delivered on protect (now (near .entry)) «near_energy» valid (estimatedOf checked (suppressorOf (now («echo_power» .entry)) (now («error_power» .entry)) (now (gain .entry)) (now (window .entry))) (now (bins .entry)) (now (block .entry))) (bare mic) paths resets (now (output .entry)) ⌝ }
 {
-    let e = b.error;
-    let x = b.spectrum;
-    let u = b.suppressor;
-    let s = suppress(tw, rev, tmp, on, protect, e, x, u);
-    let shaped = s.block;
-    let v = s.suppressor;
-    let w = m.guard;
-    let g = guard(near, near_energy, valid, w, v, p, resets, shaped, output);
-    let block = g.block;
-    let powers = host_powers(near, &block, valid, m.powers);
-    let new_paths = g.paths;
-    let new_suppressor = g.suppressor;
-    let new_guard = g.guard;
-    Delivered {
-        suppressor: new_suppressor,
+    suppress(
+        table,
+        scratch,
+        on,
+        protect,
+        bins,
+        echo_power,
+        error_power,
+        gain,
+        window,
+        block,
+    );
+    let old_guard = mic.guard;
+    let guarded = guard(
+        near,
+        near_energy,
+        valid,
+        old_guard,
+        paths,
+        resets,
+        echo_power,
+        error_power,
+        gain,
+        window,
+        block,
+        output,
+    );
+    let powers = host_powers(near, block, valid, mic.powers);
+    let new_paths = guarded.paths;
+    let new_guard = guarded.guard;
+    DeliveredRest {
         guard: new_guard,
         paths: new_paths,
-        divergence_resets: g.divergence_resets,
+        divergence_resets: guarded.divergence_resets,
         powers,
-        block,
-    }
-}
-
-// What a microphone's block leaves, from what its steps left.
-fn gather(d: Detector, c: Compared, e: Updated, g: Delivered) -> Listened
-    ensures { λ r. ⌜ r ≡ gathered d c e g ⌝ }
-{
-    let far_power_mean = e.far_power_mean;
-    let paths = g.paths;
-    let suppressor = g.suppressor;
-    let guard = g.guard;
-    let powers = g.powers;
-    let block = g.block;
-    let outcome = c.outcome;
-    Listened {
-        mic: Mic {
-            detector: d,
-            paths,
-            far_power_mean,
-            suppressor,
-            guard,
-            powers,
-            transfers: c.transfers,
-            divergence_resets: g.divergence_resets,
-        },
-        block,
-        outcome,
     }
 }
 
 // A microphone on what was heard: steps 2, 3 and 5 to 9.
 fn run_mic(
-    tw: &[f64; 514],
-    rev: &[u8; 256],
-    tmp: &mut [f64; 1024],
+    table: &[f64; 514],
+    scratch: &mut [f64; 1024],
     parts: usize,
     flag: bool,
     head: usize,
     sounded: bool,
     active: bool,
-    xs: &[f64],
-    near: [f32; 256],
+    spectra: &[f64],
+    near: &[f32; 256],
     valid: usize,
     adapt: bool,
-    m: Mic,
+    mic: MicRest,
+    means: &mut [f64; 257],
+    echo_power: &mut [f64; 257],
+    error_power: &mut [f64; 257],
+    gain: &mut [f64; 257],
+    window: &mut [f32; 512],
+    block: &mut [f32; 256],
     shadow: &mut [f64],
     output: &mut [f64],
-) -> Listened
-    requires { ⌜ now tw ≡ recombination ⌝ }
-    requires { ⌜ now rev ≡ reversalTable ⌝ }
-    requires { ⌜ (length (now shadow) ≡ 514 * parts) × (length (now output) ≡ 514 * parts) × (length (now xs) ≡ 514 * parts) × (head < parts) × (parts ≤ 32) × (valid ≤ 256) ⌝ }
-    ensures { λ r. ⌜ record { answer = r; shadow = now (shadow .exit); output = now (output .exit) } ≡ listen parts flag head sounded active (now (xs .entry)) near valid adapt m (now (shadow .entry)) (now (output .entry)) ⌝ }
+) -> ListenedRest
+    requires { ⌜ now table ≡ recombination ⌝ }
+    requires { ⌜ (length (now shadow) ≡ 514 * parts) × (length (now output) ≡ 514 * parts) × (length (now spectra) ≡ 514 * parts) × (head < parts) × (parts ≤ 32) × (valid ≤ 256) ⌝ }
+    ensures { λ r. ⌜ record { answer = record { mic = micOf (r .mic) (now (means .exit)) (suppressorOf (now («echo_power» .exit)) (now («error_power» .exit)) (now (gain .exit)) (now (window .exit))); block = now (block .exit); outcome = r .outcome }; shadow = now (shadow .exit); output = now (output .exit) } ≡ listen parts flag head sounded active (now (spectra .entry)) (now (near .entry)) valid adapt (micOf mic (now (means .entry)) (suppressorOf (now («echo_power» .entry)) (now («error_power» .entry)) (now (gain .entry)) (now (window .entry)))) (now (shadow .entry)) (now (output .entry)) ⌝ }
 {
-    let en = energy(&near, valid);
-    let f = filter(tw, rev, tmp, parts, head, xs, near, m, shadow, output);
-    let j = judge(adapt, active, &near, en, valid, f, m, shadow, output);
-    let a = f.shadow;
-    let b = f.output;
-    let d = j.detector;
-    let c = j.compared;
-    let on = adapt & !b.diverged & !a.diverged & !c.rescued;
-    let es = a.error;
-    let k = d.step_scale;
-    let w = m.far_power_mean;
-    let p = c.paths;
-    let n = b.divergence_resets;
-    let e = adapt_shadow(tw, rev, tmp, on, parts, head, xs, es, k, w, p, n, shadow);
-    let go = flag & sounded & !b.diverged;
-    let hold = d.protect_output;
-    let q = e.paths;
-    let r = e.divergence_resets;
-    let g = deliver(tw, rev, tmp, go, hold, &near, en, valid, b, m, q, r, output);
-    gather(d, c, e, g)
+    let mut bins = [0.0f64; 514];
+    let mut estimate = [0.0f32; 256];
+    let mut shadow_error = [0.0f32; 256];
+    let near_energy = energy(near, valid);
+    let checked = filter(
+        table,
+        scratch,
+        &mut bins,
+        parts,
+        head,
+        spectra,
+        near,
+        mic,
+        echo_power,
+        error_power,
+        gain,
+        window,
+        &mut estimate,
+        &mut shadow_error,
+        block,
+        shadow,
+        output,
+    );
+    let shadow_checked = checked.shadow;
+    let output_checked = checked.output;
+    let judged = judge(
+        adapt,
+        active,
+        near,
+        near_energy,
+        valid,
+        checked,
+        mic,
+        &estimate,
+        &shadow_error,
+        block,
+        shadow,
+        output,
+    );
+    let detector = judged.detector;
+    let compared = judged.compared;
+    let adapts = adapt & !output_checked.diverged & !shadow_checked.diverged & !compared.rescued;
+    let step_scale = detector.step_scale;
+    let compared_paths = compared.paths;
+    let resets = output_checked.divergence_resets;
+    let updated = adapt_shadow(
+        table,
+        scratch,
+        adapts,
+        parts,
+        head,
+        spectra,
+        &shadow_error,
+        step_scale,
+        means,
+        compared_paths,
+        resets,
+        shadow,
+    );
+    let suppresses = flag & sounded & !output_checked.diverged;
+    let protect = detector.protect_output;
+    let updated_paths = updated.paths;
+    let updated_resets = updated.divergence_resets;
+    let delivered = deliver(
+        table,
+        scratch,
+        suppresses,
+        protect,
+        near,
+        near_energy,
+        valid,
+        output_checked,
+        &bins,
+        mic,
+        updated_paths,
+        updated_resets,
+        echo_power,
+        error_power,
+        gain,
+        window,
+        block,
+        output,
+    );
+    let paths = delivered.paths;
+    let guard = delivered.guard;
+    let powers = delivered.powers;
+    let outcome = compared.outcome;
+    ListenedRest {
+        mic: MicRest {
+            detector,
+            paths,
+            guard,
+            powers,
+            transfers: compared.transfers,
+            divergence_resets: delivered.divergence_resets,
+        },
+        outcome,
+    }
 }
 
-// The tables and the scratch are made once and lent to every transform of the block.
+// The table and the scratch are made once and lent to every transform of the block.
+pub fn run_lent(
+    partitions: usize,
+    flag: bool,
+    rest: FarRest,
+    mic: MicRest,
+    near: &[f32; 256],
+    far: &[f32; 256],
+    valid: usize,
+    adapt: bool,
+    far_window: &mut [f32; 512],
+    means: &mut [f64; 257],
+    echo_power: &mut [f64; 257],
+    error_power: &mut [f64; 257],
+    gain: &mut [f64; 257],
+    window: &mut [f32; 512],
+    block: &mut [f32; 256],
+    shadow: &mut [f64],
+    output: &mut [f64],
+    spectra: &mut [f64],
+) -> BlockedRest
+    requires { ⌜ (length (now shadow) ≡ 514 * partitions) × (length (now output) ≡ 514 * partitions) × (length (now spectra) ≡ 514 * partitions) ⌝ }
+    requires { ⌜ (rest .head < partitions) × (partitions ≤ 32) × (valid ≤ 256) ⌝ }
+    ensures { λ r. ⌜ record { answer = record { state = stateOf partitions flag 0 [] [] (farOf (r .far) (now («far_window» .exit))) (micOf (r .mic) (now (means .exit)) (suppressorOf (now («echo_power» .exit)) (now («error_power» .exit)) (now (gain .exit)) (now (window .exit)))); block = now (block .exit); outcome = r .outcome }; shadow = now (shadow .exit); output = now (output .exit); spectra = now (spectra .exit) } ≡ runBlock (stateOf partitions flag 0 [] [] (farOf rest (now («far_window» .entry))) (micOf mic (now (means .entry)) (suppressorOf (now («echo_power» .entry)) (now («error_power» .entry)) (now (gain .entry)) (now (window .entry))))) (now (near .entry)) (now (far .entry)) valid adapt (now (shadow .entry)) (now (output .entry)) (now (spectra .entry)) ⌝ }
+{
+    let table = trig::recombination();
+    let mut scratch = [0.0f64; 1024];
+    let heard = hear(
+        &table,
+        &mut scratch,
+        partitions,
+        rest,
+        far_window,
+        far,
+        spectra,
+    );
+    let far_left = heard.far;
+    let active = heard.far_is_active;
+    let sounded = far_left.far_active;
+    let listened = run_mic(
+        &table,
+        &mut scratch,
+        partitions,
+        flag,
+        far_left.head,
+        sounded,
+        active,
+        spectra,
+        near,
+        valid,
+        adapt,
+        mic,
+        means,
+        echo_power,
+        error_power,
+        gain,
+        window,
+        block,
+        shadow,
+        output,
+    );
+    let mic = listened.mic;
+    let outcome = listened.outcome;
+    BlockedRest {
+        far: far_left,
+        mic,
+        outcome,
+    }
+}
+
 pub fn run_block(
     s: TauCanceller,
     near: [f32; 256],
@@ -266,41 +468,88 @@ pub fn run_block(
     requires { ⌜ (s .far .head < s .partitions) × (s .partitions ≤ 32) × (valid ≤ 256) ⌝ }
     ensures { λ r. ⌜ record { answer = r; shadow = now (shadow .exit); output = now (output .exit); spectra = now (spectra .exit) } ≡ runBlock s near far valid adapt (now (shadow .entry)) (now (output .entry)) (now (spectra .entry)) ⌝ }
 {
-    let tw = trig::recombination();
-    let rev = fft::reversal_table();
-    let mut tmp = [0.0f64; 1024];
-    let n = s.partitions;
-    let h = hear(&tw, &rev, &mut tmp, n, s.far, far, spectra);
-    let f = h.far;
-    let flag = s.suppress;
-    let m = s.mic;
-    let on = h.far_is_active;
-    let was = f.far_active;
-    let r = run_mic(
-        &tw,
-        &rev,
-        &mut tmp,
-        n,
-        flag,
-        f.head,
-        was,
-        on,
-        spectra,
-        near,
+    let mut far_window = s.far.window;
+    let mut means = s.mic.far_power_mean;
+    let mut echo = s.mic.suppressor.echo_power;
+    let mut err = s.mic.suppressor.error_power;
+    let mut gain = s.mic.suppressor.gain;
+    let mut window = s.mic.suppressor.error_window;
+    let det = s.mic.detector;
+    let pat = s.mic.paths;
+    let gua = s.mic.guard;
+    let pow = s.mic.powers;
+    let fr = FarRest {
+        head: s.far.head,
+        far_active: s.far.far_active,
+        far_energy_peak: s.far.far_energy_peak,
+    };
+    let mr = MicRest {
+        detector: det,
+        paths: pat,
+        guard: gua,
+        powers: pow,
+        transfers: s.mic.transfers,
+        divergence_resets: s.mic.divergence_resets,
+    };
+    let mut block = [0.0f32; 256];
+    let b = run_lent(
+        s.partitions,
+        s.suppress,
+        fr,
+        mr,
+        &near,
+        &far,
         valid,
         adapt,
-        m,
+        &mut far_window,
+        &mut means,
+        &mut echo,
+        &mut err,
+        &mut gain,
+        &mut window,
+        &mut block,
         shadow,
         output,
+        spectra,
     );
-    let mut t = s;
-    t.far = f;
-    let mic = r.mic;
-    t.mic = mic;
-    let block = r.block;
-    let outcome = r.outcome;
+    let x = b.far;
+    let m = b.mic;
+    let d2 = m.detector;
+    let p2 = m.paths;
+    let g2 = m.guard;
+    let w2 = m.powers;
+    let near_carry = s.near_carry;
+    let far_carry = s.far_carry;
+    let outcome = b.outcome;
     Blocked {
-        state: t,
+        state: TauCanceller {
+            partitions: s.partitions,
+            suppress: s.suppress,
+            carried: s.carried,
+            near_carry,
+            far_carry,
+            far: Far {
+                window: far_window,
+                head: x.head,
+                far_active: x.far_active,
+                far_energy_peak: x.far_energy_peak,
+            },
+            mic: Mic {
+                detector: d2,
+                paths: p2,
+                far_power_mean: means,
+                suppressor: Suppressor {
+                    echo_power: echo,
+                    error_power: err,
+                    gain,
+                    error_window: window,
+                },
+                guard: g2,
+                powers: w2,
+                transfers: m.transfers,
+                divergence_resets: m.divergence_resets,
+            },
+        },
         block,
         outcome,
     }

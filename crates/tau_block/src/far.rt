@@ -2,14 +2,15 @@
 use crate::transform::slide;
 use crate::transform::spectrum;
 use tau_steps::state::Far;
+use tau_steps::state::FarRest;
 use tau_steps::sums::energy;
-use tau_steps::weights::copy;
 ghost use mathlib.Core.Path.{_≡_};
 ghost use Prim.Native.Nat.{_≤_, _<_, _*_};
 ghost use lib.ListN.{length};
 ghost use Rattle.laws.specs.Parts.{withPart};
 ghost use Rattle.trig.specs.Tables.{recombination};
-ghost use Rattle.fft.specs.Reversal.{reversalTable};
+ghost use Rattle.fft.specs.Calls.{spectrumOf};
+ghost use Rattle.tau_steps.specs.Lent.{farOf};
 ghost use Rattle.tau_block.specs.Far.{sounds, nextSlot, peakOf, drives, hearFar};
 
 const FAR_ACTIVITY_FRACTION: f64 = 1e-4;
@@ -58,41 +59,50 @@ fn driving(peak: f64, e: f64) -> bool
     heard & above
 }
 
-fn store(spectra: &mut [f64], slot: usize, partitions: usize, s: [f64; 514])
+fn store(
+    table: &[f64; 514],
+    scratch: &mut [f64; 1024],
+    spectra: &mut [f64],
+    slot: usize,
+    partitions: usize,
+    w: &[f32; 512],
+)
+    requires { ⌜ now table ≡ recombination ⌝ }
     requires { ⌜ (length (now spectra) ≡ 514 * partitions) × (slot < partitions) × (partitions ≤ 32) ⌝ }
-    ensures { λ _. ⌜ now (spectra .exit) ≡ withPart 514 slot (now (spectra .entry)) s ⌝ }
+    ensures { λ _. ⌜ now (spectra .exit) ≡ withPart 514 slot (now (spectra .entry)) (spectrumOf (now (w .entry))) ⌝ }
 {
     let a = 514 * slot;
     let e = a + 514;
-    copy(&mut spectra[a..e], &s);
+    spectrum(table, scratch, w, &mut spectra[a..e]);
+}
+
+pub struct HeardRest {
+    pub far: FarRest,
+    pub far_is_active: bool,
 }
 
 pub fn hear(
-    tw: &[f64; 514],
-    rev: &[u8; 256],
-    tmp: &mut [f64; 1024],
+    table: &[f64; 514],
+    scratch: &mut [f64; 1024],
     partitions: usize,
-    f: Far,
-    block: [f32; 256],
+    f: FarRest,
+    window: &mut [f32; 512],
+    block: &[f32; 256],
     spectra: &mut [f64],
-) -> Heard
-    requires { ⌜ now tw ≡ recombination ⌝ }
-    requires { ⌜ now rev ≡ reversalTable ⌝ }
+) -> HeardRest
+    requires { ⌜ now table ≡ recombination ⌝ }
     requires { ⌜ (length (now spectra) ≡ 514 * partitions) × (f .head < partitions) × (partitions ≤ 32) ⌝ }
-    ensures { λ r. ⌜ record { answer = r; buffer = now (spectra .exit) } ≡ hearFar partitions f block (now (spectra .entry)) ⌝ }
+    ensures { λ r. ⌜ record { answer = record { far = farOf (r .far) (now (window .exit)); «far_is_active» = r .«far_is_active» }; buffer = now (spectra .exit) } ≡ hearFar partitions (farOf f (now (window .entry))) (now (block .entry)) (now (spectra .entry)) ⌝ }
     ensures { λ r. ⌜ r .far .head < partitions ⌝ }
 {
-    let old = f.window;
-    let w = slide(old, block);
+    slide(window, block);
     let head = next_slot(partitions, f.head);
-    let s = spectrum(tw, rev, tmp, w);
-    store(spectra, head, partitions, s);
-    let e = energy(&block, 256);
+    store(table, scratch, spectra, head, partitions, window);
+    let e = energy(block, 256);
     let top = peak(f.far_energy_peak, e);
-    let on = sounding(&block);
-    Heard {
-        far: Far {
-            window: w,
+    let on = sounding(block);
+    HeardRest {
+        far: FarRest {
             head,
             far_active: f.far_active | on,
             far_energy_peak: top,

@@ -2,7 +2,6 @@
 use crate::bins::get;
 use crate::bins::put;
 use crate::transform::later_half;
-use crate::transform::samples;
 use complex::Complex;
 use tau_steps::clears::diverge;
 use tau_steps::clears::diverge_shadow;
@@ -12,13 +11,9 @@ ghost use mathlib.Core.Path.{_≡_};
 ghost use Prim.Native.Nat.{_≤_, _<_, _*_};
 ghost use lib.ListN.{length};
 ghost use Rattle.trig.specs.Tables.{recombination};
-ghost use Rattle.fft.specs.Reversal.{reversalTable};
+ghost use Rattle.tau_steps.specs.Lent.{suppressorOf};
+ghost use Rattle.tau_block.specs.Lent.{shadowedOf, estimatedOf};
 ghost use Rattle.tau_block.specs.Filter.{added, slotOf, echoOf, errorsOf, badTo, shadowed, estimated};
-
-pub struct ErrorBlock {
-    pub block: [f32; 256],
-    pub bad: bool,
-}
 
 pub struct Shadowed {
     pub paths: Paths,
@@ -58,12 +53,12 @@ pub fn slot_of(head: usize, parts: usize, p: usize) -> usize
     (head + parts - p) % parts
 }
 
-fn echo(ws: &[f64], xs: &[f64], head: usize, parts: usize) -> [f64; 514]
+fn echo(ws: &[f64], xs: &[f64], head: usize, parts: usize, acc: &mut [f64; 514])
     requires { ⌜ (length (now ws) ≡ 514 * parts) × (length (now xs) ≡ 514 * parts) × (head < parts) × (parts ≤ 32) ⌝ }
-    ensures { λ r. ⌜ r ≡ echoOf (now (ws .entry)) (now (xs .entry)) head parts ⌝ }
+    ensures { λ _. ⌜ now (acc .exit) ≡ echoOf (now (ws .entry)) (now (xs .entry)) head parts ⌝ }
 {
     let zero = Complex::ZERO;
-    let mut acc = [zero.re; 514];
+    *acc = [zero.re; 514];
     let mut p = 0usize;
     while p < parts {
         let slot = slot_of(head, parts, p);
@@ -71,17 +66,16 @@ fn echo(ws: &[f64], xs: &[f64], head: usize, parts: usize) -> [f64; 514]
         let b = 514 * slot;
         let ae = a + 514;
         let be = b + 514;
-        multiply_add(&mut acc, &ws[a..ae], &xs[b..be]);
+        multiply_add(acc, &ws[a..ae], &xs[b..be]);
         p += 1;
     }
-    acc
 }
 
 // The errors, and whether one of them is not finite.
-fn errors(near: [f32; 256], est: [f32; 256]) -> ErrorBlock
-    ensures { λ r. ⌜ (r .block ≡ errorsOf near est) × (r .bad ≡ badTo near est 256) ⌝ }
+fn errors(near: &[f32; 256], est: &[f32; 256], b: &mut [f32]) -> bool
+    requires { ⌜ length (now b) ≡ 256 ⌝ }
+    ensures { λ r. ⌜ (now (b .exit) ≡ errorsOf (now (near .entry)) (now (est .entry))) × (r ≡ badTo (now (near .entry)) (now (est .entry)) 256) ⌝ }
 {
-    let mut b = [0.0f32; 256];
     let mut bad = false;
     let mut i = 0usize;
     while i < 256 {
@@ -90,93 +84,93 @@ fn errors(near: [f32; 256], est: [f32; 256]) -> ErrorBlock
         bad = bad | !numbers::is_finite32(e);
         i += 1;
     }
-    ErrorBlock { block: b, bad }
+    bad
+}
+
+pub struct Checked {
+    pub paths: Paths,
+    pub divergence_resets: u64,
+    pub diverged: bool,
 }
 
 pub fn shadow_estimate(
-    tw: &[f64; 514],
-    rev: &[u8; 256],
-    tmp: &mut [f64; 1024],
+    table: &[f64; 514],
+    scratch: &mut [f64; 1024],
+    bins: &mut [f64; 514],
     parts: usize,
     head: usize,
     xs: &[f64],
-    near: [f32; 256],
+    near: &[f32; 256],
     p: Paths,
     resets: u64,
+    estimate: &mut [f32; 256],
+    error: &mut [f32; 256],
     shadow: &mut [f64],
-) -> Shadowed
-    requires { ⌜ now tw ≡ recombination ⌝ }
-    requires { ⌜ now rev ≡ reversalTable ⌝ }
+) -> Checked
+    requires { ⌜ now table ≡ recombination ⌝ }
     requires { ⌜ (length (now shadow) ≡ 514 * parts) × (length (now xs) ≡ 514 * parts) × (head < parts) × (parts ≤ 32) ⌝ }
-    ensures { λ r. ⌜ record { answer = r; buffer = now (shadow .exit) } ≡ shadowed parts head (now (xs .entry)) near p resets (now (shadow .entry)) ⌝ }
+    ensures { λ r. ⌜ record { answer = shadowedOf r (now (estimate .exit)) (now (error .exit)); buffer = now (shadow .exit) } ≡ shadowed parts head (now (xs .entry)) (now (near .entry)) p resets (now (shadow .entry)) ⌝ }
 {
-    let est = later_half(samples(tw, rev, tmp, echo(shadow, xs, head, parts)));
-    let e = errors(near, est);
-    if e.bad {
+    echo(shadow, xs, head, parts, bins);
+    later_half(table, scratch, bins, estimate);
+    let bad = errors(near, estimate, error);
+    if bad {
         let c = diverge_shadow(p, resets, shadow);
         let q = c.paths;
-        let none = [0.0f32; 256];
-        return Shadowed {
+        *estimate = [0.0f32; 256];
+        *error = *near;
+        return Checked {
             paths: q,
             divergence_resets: c.divergence_resets,
             diverged: true,
-            estimate: none,
-            error: near,
         };
     }
-    let block = e.block;
-    Shadowed {
+    Checked {
         paths: p,
         divergence_resets: resets,
         diverged: false,
-        estimate: est,
-        error: block,
     }
 }
 
 pub fn output_estimate(
-    tw: &[f64; 514],
-    rev: &[u8; 256],
-    tmp: &mut [f64; 1024],
+    table: &[f64; 514],
+    scratch: &mut [f64; 1024],
+    bins: &mut [f64; 514],
     parts: usize,
     head: usize,
     xs: &[f64],
-    near: [f32; 256],
+    near: &[f32; 256],
     p: Paths,
-    u: Suppressor,
     resets: u64,
+    echoes: &mut [f64; 257],
+    errs: &mut [f64; 257],
+    gain: &mut [f64; 257],
+    window: &[f32; 512],
+    error: &mut [f32; 256],
     shadow: &mut [f64],
     output: &mut [f64],
-) -> Estimated
-    requires { ⌜ now tw ≡ recombination ⌝ }
-    requires { ⌜ now rev ≡ reversalTable ⌝ }
+) -> Checked
+    requires { ⌜ now table ≡ recombination ⌝ }
     requires { ⌜ (length (now output) ≡ 514 * parts) × (length (now xs) ≡ 514 * parts) × (head < parts) × (parts ≤ 32) ⌝ }
-    ensures { λ r. ⌜ record { answer = r; shadow = now (shadow .exit); output = now (output .exit) } ≡ estimated parts head (now (xs .entry)) near p u resets (now (shadow .entry)) (now (output .entry)) ⌝ }
+    ensures { λ r. ⌜ record { answer = estimatedOf r (suppressorOf (now (echoes .exit)) (now (errs .exit)) (now (gain .exit)) (now (window .entry))) (now (bins .exit)) (now (error .exit)); shadow = now (shadow .exit); output = now (output .exit) } ≡ estimated parts head (now (xs .entry)) (now (near .entry)) p (suppressorOf (now (echoes .entry)) (now (errs .entry)) (now (gain .entry)) (now (window .entry))) resets (now (shadow .entry)) (now (output .entry)) ⌝ }
 {
-    let bins = echo(output, xs, head, parts);
-    let est = later_half(samples(tw, rev, tmp, bins));
-    let e = errors(near, est);
-    if e.bad {
-        let c = diverge(p, u, resets, shadow, output);
+    echo(output, xs, head, parts, bins);
+    let mut estimate = [0.0f32; 256];
+    later_half(table, scratch, bins, &mut estimate);
+    let bad = errors(near, &estimate, error);
+    if bad {
+        let c = diverge(p, resets, echoes, errs, gain, window, shadow, output);
         let q = c.paths;
-        let v = c.suppressor;
-        let none = [0.0f32; 256];
-        return Estimated {
+        *error = [0.0f32; 256];
+        return Checked {
             paths: q,
-            suppressor: v,
             divergence_resets: c.divergence_resets,
             diverged: true,
-            spectrum: bins,
-            error: none,
         };
     }
-    let error = e.block;
-    Estimated {
+    Checked {
         paths: p,
-        suppressor: u,
         divergence_resets: resets,
         diverged: false,
-        spectrum: bins,
-        error,
     }
 }

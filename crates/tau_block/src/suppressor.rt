@@ -3,7 +3,6 @@ use crate::bins::get;
 use crate::bins::power;
 use crate::bins::put;
 use crate::transform::later_half;
-use crate::transform::samples;
 use crate::transform::slide;
 use crate::transform::spectrum;
 use tau_steps::state::Suppressor;
@@ -12,7 +11,7 @@ ghost use mathlib.Core.Path.{_≡_};
 ghost use Prim.Native.Nat.{_≤_, _<_, _+_, _-_};
 ghost use lib.ListN.{length};
 ghost use Rattle.trig.specs.Tables.{recombination};
-ghost use Rattle.fft.specs.Reversal.{reversalTable};
+ghost use Rattle.tau_steps.specs.Lent.{suppressorOf};
 ghost use Rattle.tau_block.specs.Suppressor.{powered, targetOf, gainOf, gained, spanOf, sumFrom, averageOf, averaged, shaped, suppressed};
 
 const SUPPRESSION_SMOOTHING: f64 = 0.7;
@@ -32,16 +31,14 @@ pub struct Suppressed {
     pub block: [f32; 256],
 }
 
-fn bin_powers(s: &[f64; 514], old: [f64; 257]) -> [f64; 257]
-    ensures { λ r. ⌜ r ≡ powered (now (s .entry)) old ⌝ }
+fn bin_powers(s: &[f64; 514], a: &mut [f64; 257])
+    ensures { λ _. ⌜ now (a .exit) ≡ powered (now (s .entry)) (now (a .entry)) ⌝ }
 {
-    let mut a = old;
     let mut k = 0usize;
     while k < 257 {
         a[k] = smooth(SUPPRESSION_SMOOTHING, a[k], power(s, k));
         k += 1;
     }
-    a
 }
 
 fn target(protect: bool, echo: f64, err: f64) -> f64
@@ -67,17 +64,15 @@ fn gain(target: f64, g: f64) -> f64
     smooth(GAIN_SMOOTHING, g, target)
 }
 
-fn gains(protect: bool, echo: &[f64; 257], err: &[f64; 257], old: [f64; 257]) -> [f64; 257]
-    ensures { λ r. ⌜ r ≡ gained protect (now (echo .entry)) (now (err .entry)) old ⌝ }
+fn gains(protect: bool, echo: &[f64; 257], err: &[f64; 257], g: &mut [f64; 257])
+    ensures { λ _. ⌜ now (g .exit) ≡ gained protect (now (echo .entry)) (now (err .entry)) (now (g .entry)) ⌝ }
 {
-    let mut g = old;
     let mut k = 0usize;
     while k < 257 {
         let t = target(protect, echo[k], err[k]);
         g[k] = gain(t, g[k]);
         k += 1;
     }
-    g
 }
 
 fn first(k: usize) -> usize
@@ -123,69 +118,42 @@ fn average(g: &[f64; 257], k: usize) -> f64
     sum_from(g, lo, n) / (n as f64)
 }
 
-fn averages(g: &[f64; 257]) -> [f64; 257]
-    ensures { λ r. ⌜ r ≡ averaged (now (g .entry)) ⌝ }
+// Each bin times the average of the gains about it.
+fn shape(g: &[f64; 257], s: &mut [f64])
+    requires { ⌜ length (now s) ≡ 514 ⌝ }
+    ensures { λ _. ⌜ now (s .exit) ≡ shaped (averaged (now (g .entry))) (now (s .entry)) ⌝ }
 {
-    let mut a = [0.0f64; 257];
     let mut k = 0usize;
     while k < 257 {
-        a[k] = average(g, k);
+        let z = get(s, k).scale(average(g, k));
+        put(s, k, z);
         k += 1;
     }
-    a
-}
-
-fn shape(v: &[f64; 257], bins: [f64; 514]) -> [f64; 514]
-    ensures { λ r. ⌜ r ≡ shaped (now (v .entry)) bins ⌝ }
-{
-    let mut s = bins;
-    let mut k = 0usize;
-    while k < 257 {
-        let z = get(&s, k).scale(v[k]);
-        put(&mut s, k, z);
-        k += 1;
-    }
-    s
 }
 
 pub fn suppress(
-    tw: &[f64; 514],
-    rev: &[u8; 256],
-    tmp: &mut [f64; 1024],
+    table: &[f64; 514],
+    scratch: &mut [f64; 1024],
     on: bool,
     protect: bool,
-    error: [f32; 256],
-    estimate: [f64; 514],
-    u: Suppressor,
-) -> Suppressed
-    requires { ⌜ now tw ≡ recombination ⌝ }
-    requires { ⌜ now rev ≡ reversalTable ⌝ }
-    ensures { λ r. ⌜ r ≡ suppressed on protect error estimate u ⌝ }
+    estimate: &[f64; 514],
+    echo: &mut [f64; 257],
+    err: &mut [f64; 257],
+    gain: &mut [f64; 257],
+    window: &mut [f32; 512],
+    block: &mut [f32; 256],
+)
+    requires { ⌜ now table ≡ recombination ⌝ }
+    ensures { λ _. ⌜ record { suppressor = suppressorOf (now (echo .exit)) (now (err .exit)) (now (gain .exit)) (now (window .exit)); block = now (block .exit) } ≡ suppressed on protect (now (block .entry)) (now (estimate .entry)) (suppressorOf (now (echo .entry)) (now (err .entry)) (now (gain .entry)) (now (window .entry))) ⌝ }
 {
-    let old = u.error_window;
-    let w = slide(old, error);
-    let mut t = u;
-    t.error_window = w;
+    slide(window, block);
     if on {
-        let s = spectrum(tw, rev, tmp, w);
-        let old_echo = u.echo_power;
-        let old_error = u.error_power;
-        let old_gain = u.gain;
-        let echo = bin_powers(&estimate, old_echo);
-        let err = bin_powers(&s, old_error);
-        let g = gains(protect, &echo, &err, old_gain);
-        t.echo_power = echo;
-        t.error_power = err;
-        t.gain = g;
-        let v = averages(&g);
-        let block = later_half(samples(tw, rev, tmp, shape(&v, s)));
-        return Suppressed {
-            suppressor: t,
-            block,
-        };
-    }
-    Suppressed {
-        suppressor: t,
-        block: error,
+        let mut bins = [0.0f64; 514];
+        spectrum(table, scratch, window, &mut bins);
+        bin_powers(estimate, echo);
+        bin_powers(&bins, err);
+        gains(protect, echo, err, gain);
+        shape(gain, &mut bins);
+        later_half(table, scratch, &bins, block);
     }
 }

@@ -1,68 +1,56 @@
-// The transform over its two tables (`tw` the recombination, `rev` the reversal) and a scratch (`tmp`), which a block makes once and
-// lends to each of its transforms; and the halves of
-// its windows.
+// The transform over its table and a scratch, which a block makes once and lends to each of its transforms; and a window that slides.
 ghost use mathlib.Core.Path.{_≡_};
+ghost use lib.ListN.{length, take};
 ghost use Rattle.trig.specs.Tables.{recombination};
-ghost use Rattle.fft.specs.Reversal.{reversalTable};
 ghost use Rattle.fft.specs.Calls.{spectrumOf, samplesOf};
 ghost use Rattle.tau_block.specs.Far.{slid};
 ghost use Rattle.tau_block.specs.Filter.{latter};
 
-pub fn spectrum(
-    tw: &[f64; 514],
-    rev: &[u8; 256],
-    tmp: &mut [f64; 1024],
-    window: [f32; 512],
-) -> [f64; 514]
-    requires { ⌜ now tw ≡ recombination ⌝ }
-    requires { ⌜ now rev ≡ reversalTable ⌝ }
-    ensures { λ r. ⌜ r ≡ spectrumOf window ⌝ }
+pub fn spectrum(table: &[f64; 514], scratch: &mut [f64; 1024], window: &[f32], bins: &mut [f64])
+    requires { ⌜ now table ≡ recombination ⌝ }
+    requires { ⌜ (length (now window) ≡ 512) × (length (now bins) ≡ 514) ⌝ }
+    ensures { λ _. ⌜ now (bins .exit) ≡ spectrumOf (now (window .entry)) ⌝ }
 {
-    let mut out = [0.0f64; 514];
-    fft::forward_with(tw, rev, tmp, &window, &mut out);
-    out
+    fft::forward_with(table, scratch, window, bins);
 }
 
-pub fn samples(
-    tw: &[f64; 514],
-    rev: &[u8; 256],
-    tmp: &mut [f64; 1024],
-    bins: [f64; 514],
-) -> [f32; 512]
-    requires { ⌜ now tw ≡ recombination ⌝ }
-    requires { ⌜ now rev ≡ reversalTable ⌝ }
-    ensures { λ r. ⌜ r ≡ samplesOf bins ⌝ }
+pub fn first_half(
+    table: &[f64; 514],
+    scratch: &mut [f64; 1024],
+    bins: &[f64; 514],
+    samples: &mut [f32],
+)
+    requires { ⌜ now table ≡ recombination ⌝ }
+    requires { ⌜ length (now samples) ≡ 256 ⌝ }
+    ensures { λ _. ⌜ now (samples .exit) ≡ take 256 (samplesOf (now (bins .entry))) ⌝ }
 {
-    let mut out = [0.0f32; 512];
-    fft::inverse_with(tw, rev, tmp, &bins, &mut out);
-    out
+    fft::inverse_half_with(table, scratch, bins, false, samples);
 }
 
-pub fn slide(w: [f32; 512], b: [f32; 256]) -> [f32; 512]
-    ensures { λ r. ⌜ r ≡ slid w b ⌝ }
+pub fn later_half(
+    table: &[f64; 514],
+    scratch: &mut [f64; 1024],
+    bins: &[f64; 514],
+    samples: &mut [f32; 256],
+)
+    requires { ⌜ now table ≡ recombination ⌝ }
+    ensures { λ _. ⌜ now (samples .exit) ≡ latter (samplesOf (now (bins .entry))) ⌝ }
 {
-    let mut t = w;
+    fft::inverse_half_with(table, scratch, bins, true, samples);
+}
+
+pub fn slide(w: &mut [f32], b: &[f32])
+    requires { ⌜ (length (now w) ≡ 512) × (length (now b) ≡ 256) ⌝ }
+    ensures { λ _. ⌜ now (w .exit) ≡ slid (now (w .entry)) (now (b .entry)) ⌝ }
+{
     let mut i = 0usize;
     while i < 256 {
-        t[i] = t[256 + i];
+        w[i] = w[256 + i];
         i += 1;
     }
     let mut j = 0usize;
     while j < 256 {
-        t[256 + j] = b[j];
+        w[256 + j] = b[j];
         j += 1;
     }
-    t
-}
-
-pub fn later_half(s: [f32; 512]) -> [f32; 256]
-    ensures { λ r. ⌜ r ≡ latter s ⌝ }
-{
-    let mut b = [0.0f32; 256];
-    let mut i = 0usize;
-    while i < 256 {
-        b[i] = s[256 + i];
-        i += 1;
-    }
-    b
 }

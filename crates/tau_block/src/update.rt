@@ -3,7 +3,7 @@ use crate::bins::get;
 use crate::bins::power;
 use crate::bins::put;
 use crate::filter::slot_of;
-use crate::transform::samples;
+use crate::transform::first_half;
 use crate::transform::slide;
 use crate::transform::spectrum;
 use complex::Complex;
@@ -14,12 +14,12 @@ ghost use mathlib.Core.Path.{_≡_};
 ghost use mathlib.Core.Bool.{_&&_};
 ghost use mathlib.Core.List.{_++_};
 ghost use Prim.Native.Nat.{_≤_, _<_, _*_};
-ghost use lib.ListN.{length, take, replicate, getD};
+ghost use lib.ListN.{length, drop, replicate};
 ghost use lib.Ieee.{nan, binary64, add};
 ghost use Rattle.laws.specs.Loops.{over};
 ghost use Rattle.trig.specs.Tables.{recombination};
-ghost use Rattle.fft.specs.Reversal.{reversalTable};
 ghost use Rattle.tau_steps.specs.Constants.{zero32};
+ghost use Rattle.tau_block.specs.Lent.{updatedOf};
 ghost use Rattle.tau_block.specs.Bins.{powerAt};
 ghost use Rattle.tau_block.specs.Update.{farPowerTo, factorOf, rateOf, ratesOf, meansOf, gradientOf, constrained, stepped, finiteTo, learntTo, verdictOn, updated};
 
@@ -50,19 +50,18 @@ fn add_powers(acc: &mut [f64; 257], x: &[f64])
 }
 
 // By slot and not by age: the source's order, and another one would round otherwise.
-fn far_power(xs: &[f64], parts: usize) -> [f64; 257]
+fn far_power(xs: &[f64], parts: usize, acc: &mut [f64; 257])
     requires { ⌜ (length (now xs) ≡ 514 * parts) × (parts ≤ 32) ⌝ }
-    ensures { λ r. ⌜ r ≡ farPowerTo (now (xs .entry)) parts ⌝ }
+    ensures { λ _. ⌜ now (acc .exit) ≡ farPowerTo (now (xs .entry)) parts ⌝ }
 {
-    let mut acc = [0.0f64; 257];
+    *acc = [0.0f64; 257];
     let mut p = 0usize;
     while p < parts {
         let a = 514 * p;
         let e = a + 514;
-        add_powers(&mut acc, &xs[a..e]);
+        add_powers(acc, &xs[a..e]);
         p += 1;
     }
-    acc
 }
 
 // A bin below its usual power is stepped down by the square of its share.
@@ -82,69 +81,51 @@ fn rate(scale: f64, mean: f64, power: f64) -> f64
     STEP_SIZE * factor(mean, power) * scale / (power + REGULARIZATION)
 }
 
-fn rates(scale: f64, means: &[f64; 257], powers: &[f64; 257]) -> [f64; 257]
-    ensures { λ r. ⌜ r ≡ ratesOf scale (now (means .entry)) (now (powers .entry)) ⌝ }
+fn rates(scale: f64, means: &[f64; 257], powers: &[f64; 257], t: &mut [f64])
+    requires { ⌜ length (now t) ≡ 257 ⌝ }
+    ensures { λ _. ⌜ now (t .exit) ≡ ratesOf scale (now (means .entry)) (now (powers .entry)) ⌝ }
 {
-    let mut t = [0.0f64; 257];
     let mut k = 0usize;
     while k < 257 {
         t[k] = rate(scale, means[k], powers[k]);
         k += 1;
     }
-    t
 }
 
-fn new_means(powers: &[f64; 257], means: [f64; 257]) -> [f64; 257]
-    ensures { λ r. ⌜ r ≡ meansOf (now (powers .entry)) means ⌝ }
+fn new_means(powers: &[f64; 257], t: &mut [f64; 257])
+    ensures { λ _. ⌜ now (t .exit) ≡ meansOf (now (powers .entry)) (now (t .entry)) ⌝ }
 {
-    let mut t = means;
     let mut k = 0usize;
     while k < 257 {
         t[k] = smooth(STEP_POWER_SMOOTHING, t[k], powers[k]);
         k += 1;
     }
-    t
 }
 
 // conj(x) * e as independent products, so that nothing can be fused.
-fn gradient(x: &[f64], e: &[f64; 514], rates: &[f64; 257]) -> [f64; 514]
-    requires { ⌜ length (now x) ≡ 514 ⌝ }
-    ensures { λ r. ⌜ r ≡ gradientOf (now (x .entry)) (now (e .entry)) (now (rates .entry)) ⌝ }
+fn gradient(x: &[f64], e: &[f64; 514], rates: &[f64; 257], g: &mut [f64])
+    requires { ⌜ (length (now x) ≡ 514) × (length (now g) ≡ 514) ⌝ }
+    ensures { λ _. ⌜ now (g .exit) ≡ gradientOf (now (x .entry)) (now (e .entry)) (now (rates .entry)) ⌝ }
 {
-    let zero = Complex::ZERO;
-    let mut g = [zero.re; 514];
     let mut k = 0usize;
     while k < 257 {
         let u = get(x, k);
         let v = get(e, k);
         let z = Complex::new(u.re * v.re + u.im * v.im, u.re * v.im - u.im * v.re);
-        put(&mut g, k, z.scale(rates[k]));
+        put(g, k, z.scale(rates[k]));
         k += 1;
     }
-    g
 }
 
 // The lags beyond one block are the wrap-around and no taps: they are zeroed.
-fn cut(s: [f32; 512]) -> [f32; 512]
-    ensures { λ r. ⌜ r ≡ take 256 s ++ replicate 256 zero32 ⌝ }
+fn constrain(table: &[f64; 514], scratch: &mut [f64; 1024], g: &mut [f64; 514], lags: &mut [f32])
+    requires { ⌜ now table ≡ recombination ⌝ }
+    requires { ⌜ (length (now lags) ≡ 512) × (drop 256 (now lags) ≡ replicate 256 zero32) ⌝ }
+    ensures { λ _. ⌜ now (g .exit) ≡ constrained (now (g .entry)) ⌝ }
+    ensures { λ _. ⌜ drop 256 (now (lags .exit)) ≡ replicate 256 zero32 ⌝ }
 {
-    let mut t = s;
-    let mut i = 0usize;
-    while i < 256 {
-        t[256 + i] = 0.0;
-        i += 1;
-    }
-    t
-}
-
-fn constrain(tw: &[f64; 514], rev: &[u8; 256], tmp: &mut [f64; 1024], g: [f64; 514]) -> [f64; 514]
-    requires { ⌜ now tw ≡ recombination ⌝ }
-    requires { ⌜ now rev ≡ reversalTable ⌝ }
-    ensures { λ r. ⌜ r ≡ constrained g ⌝ }
-{
-    let s = samples(tw, rev, tmp, g);
-    let t = cut(s);
-    spectrum(tw, rev, tmp, t)
+    first_half(table, scratch, g, &mut lags[..256]);
+    spectrum(table, scratch, lags, g);
 }
 
 // One partition's weights with the gradient added, and whether all are finite.
@@ -176,9 +157,8 @@ fn all_finite(w: &[f64]) -> bool
 
 // All weights are written before the verdict on them.
 fn learn(
-    tw: &[f64; 514],
-    rev: &[u8; 256],
-    tmp: &mut [f64; 1024],
+    table: &[f64; 514],
+    scratch: &mut [f64; 1024],
     parts: usize,
     head: usize,
     xs: &[f64],
@@ -186,18 +166,20 @@ fn learn(
     rates: &[f64; 257],
     shadow: &mut [f64],
 ) -> bool
-    requires { ⌜ now tw ≡ recombination ⌝ }
-    requires { ⌜ now rev ≡ reversalTable ⌝ }
+    requires { ⌜ now table ≡ recombination ⌝ }
     requires { ⌜ (length (now shadow) ≡ 514 * parts) × (length (now xs) ≡ 514 * parts) × (head < parts) × (parts ≤ 32) ⌝ }
     ensures { λ r. ⌜ record { weights = now (shadow .exit); good = r } ≡ learntTo parts head (now (xs .entry)) (now (e .entry)) (now (rates .entry)) (now (shadow .entry)) parts ⌝ }
 {
+    let mut g = [0.0f64; 514];
+    let mut lags = [0.0f32; 512];
     let mut good = true;
     let mut p = 0usize;
     while p < parts {
         let slot = slot_of(head, parts, p);
         let b = 514 * slot;
         let be = b + 514;
-        let g = constrain(tw, rev, tmp, gradient(&xs[b..be], e, rates));
+        gradient(&xs[b..be], e, rates, &mut g);
+        constrain(table, scratch, &mut g, &mut lags);
         let a = 514 * p;
         let ae = a + 514;
         let fine = take_step(&mut shadow[a..ae], &g);
@@ -207,56 +189,60 @@ fn learn(
     good
 }
 
+pub struct UpdatedRest {
+    pub paths: Paths,
+    pub divergence_resets: u64,
+}
+
 pub fn adapt_shadow(
-    tw: &[f64; 514],
-    rev: &[u8; 256],
-    tmp: &mut [f64; 1024],
+    table: &[f64; 514],
+    scratch: &mut [f64; 1024],
     on: bool,
     parts: usize,
     head: usize,
     xs: &[f64],
-    error: [f32; 256],
+    error: &[f32; 256],
     scale: f64,
-    means: [f64; 257],
+    means: &mut [f64; 257],
     p: Paths,
     resets: u64,
     shadow: &mut [f64],
-) -> Updated
-    requires { ⌜ now tw ≡ recombination ⌝ }
-    requires { ⌜ now rev ≡ reversalTable ⌝ }
+) -> UpdatedRest
+    requires { ⌜ now table ≡ recombination ⌝ }
     requires { ⌜ (length (now shadow) ≡ 514 * parts) × (length (now xs) ≡ 514 * parts) × (head < parts) × (parts ≤ 32) ⌝ }
-    ensures { λ r. ⌜ record { answer = r; buffer = now (shadow .exit) } ≡ updated on parts head (now (xs .entry)) error scale means p resets (now (shadow .entry)) ⌝ }
+    ensures { λ r. ⌜ record { answer = updatedOf r (now (means .exit)); buffer = now (shadow .exit) } ≡ updated on parts head (now (xs .entry)) (now (error .entry)) scale (now (means .entry)) p resets (now (shadow .entry)) ⌝ }
 {
     if on {
-        let zeros = [0.0f32; 512];
-        let e = spectrum(tw, rev, tmp, slide(zeros, error));
-        let powers = far_power(xs, parts);
-        let steps = rates(scale, &means, &powers);
-        let next = new_means(&powers, means);
-        let good = learn(tw, rev, tmp, parts, head, xs, &e, &steps, shadow);
-        return judge(good, next, p, resets, shadow);
+        let mut e = [0.0f64; 514];
+        let mut powers = [0.0f64; 257];
+        let mut steps = [0.0f64; 257];
+        let mut framed = [0.0f32; 512];
+        slide(&mut framed, error);
+        spectrum(table, scratch, &framed, &mut e);
+        far_power(xs, parts, &mut powers);
+        rates(scale, means, &powers, &mut steps);
+        new_means(&powers, means);
+        let good = learn(table, scratch, parts, head, xs, &e, &steps, shadow);
+        return judge(good, means, p, resets, shadow);
     }
-    Updated {
-        far_power_mean: means,
+    UpdatedRest {
         paths: p,
         divergence_resets: resets,
     }
 }
 
-fn judge(good: bool, means: [f64; 257], p: Paths, resets: u64, shadow: &mut [f64]) -> Updated
-    ensures { λ r. ⌜ record { answer = r; buffer = now (shadow .exit) } ≡ verdictOn good means p resets (now (shadow .entry)) ⌝ }
+fn judge(good: bool, means: &[f64; 257], p: Paths, resets: u64, shadow: &mut [f64]) -> UpdatedRest
+    ensures { λ r. ⌜ record { answer = updatedOf r (now (means .entry)); buffer = now (shadow .exit) } ≡ verdictOn good (now (means .entry)) p resets (now (shadow .entry)) ⌝ }
 {
     if good {
-        return Updated {
-            far_power_mean: means,
+        return UpdatedRest {
             paths: p,
             divergence_resets: resets,
         };
     }
     let c = diverge_shadow(p, resets, shadow);
     let q = c.paths;
-    Updated {
-        far_power_mean: means,
+    UpdatedRest {
         paths: q,
         divergence_resets: c.divergence_resets,
     }

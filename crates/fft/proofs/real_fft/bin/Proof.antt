@@ -1,22 +1,14 @@
 use borrow.Author.Needs.{needs}
-use Rattle.fft.specs.RealFft.{binOf}
+use Rattle.fft.proofs.Ends.{bin-there}
 use Rattle.fft.proofs.real_fft.bin.Statement.{statement}
 use Rattle.fft.proofs.real_fft.bin.Tie as tie
 
 pub bin-spec : {M : Type 1} → statement M
-unfolding binOf
 bin-spec =
     tie.close
     (tie.spec
     (λ c κs. search needs)
-    (λ c. search needs)
     (λ c κs. search needs)
     (λ c κs. search needs)
     (λ c κs. search needs)
-    (λ c κs. search needs)
-    (λ c κs. search needs)
-    (λ c κs. search needs)
-    (λ c κs. search needs)
-    (λ c κs. search needs)
-    (λ c κs. search needs)
-    (λ c. rw (c .add2 .ensures, c .before .mul .ensures, c .before .before .get3 .ensures, c .before .before .before .new .ensures, c .before .before .before .before .before .before .sub .ensures, c .before .before .before .before .before .before .before .scale .ensures, c .before .before .before .before .before .before .before .before .add .ensures, c .before .before .before .before .before .before .before .before .before .conj .ensures, c .before .before .before .before .before .before .before .before .before .before .get2 .ensures, c .before .before .before .before .before .before .before .before .before .before .before .get .ensures)))
+    (λ c. let a = c .before .before .before .before .before .before .args in let p = c .before .before .before .before .before .before .pre .1 .1 .1 in (rw (c .bin-from .ensures, c .before .get .ensures, c .before .before .get-split2 .ensures, c .before .before .before .get-split .ensures) (bin-there (a .table .now) (a .z .now) (a .k) (a .here) (a .mirror) (p .0) (p .1)))))

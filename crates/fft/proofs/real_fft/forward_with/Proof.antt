@@ -1,7 +1,5 @@
-use mathlib.Core.Path.{_≡_, refl, sym}
+use mathlib.Core.Path.{_≡_, refl}
 use native.Mathlib.Omega.{arith}
-use lib.ListN.{length, take}
-use lib.Seq.{length-take-le}
 use borrow.Author.Needs.{needs}
 use borrow.Author.Tests.{eq-eqb, ne-eqb, not-true, not-false}
 use Rattle.laws.specs.Choice.{pick-yes, pick-no}
@@ -17,14 +15,16 @@ forward-with-spec =
     (tie.spec
     (λ c κs. search needs)
     (λ c. search needs)
-    (λ c. pick-no _ _ _ (rw (← c .before .lent .ensures, not-true (c .before .lent .result) (c .if1 .taken))) refl)
+    (λ c. let lent = c .before .lent in (pick-no _ _ _ (rw (← lent .ensures, not-true (lent .result) (c .if1 .taken))) refl, λ _. refl))
     (λ c. search needs)
-    (λ c. pick-no _ _ _ (rw (← c .before .before .lent .ensures, not-false (c .before .before .lent .result) (c .before .if1 .left), ne-eqb _ _ (c .if2 .taken))) refl)
+    (λ c. let lent = c .before .before .lent in (pick-no _ _ _ (rw (← lent .ensures, not-false (lent .result) (c .before .if1 .left), ne-eqb _ _ (c .if2 .taken))) refl, λ _. refl))
     (λ c. search needs)
-    (λ c. pick-no _ _ _ (rw (← c .before .before .before .lent .ensures, not-false (c .before .before .before .lent .result) (c .before .before .if1 .left), eq-eqb _ _ (c .before .if2 .left), ne-eqb _ _ (c .if3 .taken))) refl)
-    (λ c. let n = lengths (c .before .before .before .before .before .before .before .before .before .before .args .table .now) (c .before .before .before .before .before .before .before .before .before .before .args .reversal .now) (c .before .before .before .before .before .before .before .before .before .before .args .scratch .now) (c .before .before .before .lent .result) (c .before .before .before .lent .ensures) (c .before .before .if1 .left) in omega (arith, n .scratch))
-    (λ c. let n = lengths (c .before .before .before .before .before .before .before .before .before .before .before .args .table .now) (c .before .before .before .before .before .before .before .before .before .before .before .args .reversal .now) (c .before .before .before .before .before .before .before .before .before .before .before .args .scratch .now) (c .before .before .before .before .lent .result) (c .before .before .before .before .lent .ensures) (c .before .before .before .if1 .left) in sym (length-take-le 512 (c .before .before .before .before .before .before .before .before .before .before .before .args .scratch .now) (omega (arith, n .scratch))))
-    (λ c κs. let n = lengths (c .before .before .before .before .before .before .before .before .before .before .before .before .args .table .now) (c .before .before .before .before .before .before .before .before .before .before .before .before .args .reversal .now) (c .before .before .before .before .before .before .before .before .before .before .before .before .args .scratch .now) (c .before .before .before .before .before .lent .result) (c .before .before .before .before .before .lent .ensures) (c .before .before .before .before .if1 .left) in let e : length (take 512 (c .before .before .before .before .before .before .before .before .before .before .before .before .args .scratch .now)) ≡ 512 = length-take-le 512 (c .before .before .before .before .before .before .before .before .before .before .before .before .args .scratch .now) (omega (arith, n .scratch)) in omega (arith, e, n .table, n .reversal))
+    (λ c. let lent = c .before .before .before .lent in (pick-no _ _ _ (rw (← lent .ensures, not-false (lent .result) (c .before .before .if1 .left), eq-eqb _ _ (c .before .if2 .left), ne-eqb _ _ (c .if3 .taken))) refl, λ _. refl))
+    (λ c κs. let lent = c .before .before .before .before .before .lent in let n = lengths (c .before .before .before .before .before .before .before .before .before .before .before .args .table .now) (c .before .before .before .before .before .before .before .before .before .before .before .args .scratch .now) (lent .result) (lent .ensures) (c .before .before .before .before .if1 .left) in search (needs, n))
     (λ c. search needs)
     (λ c. search needs)
-    (λ c. pick-yes _ _ _ (rw (← c .before .before .before .before .before .before .before .before .before .before .lent .ensures, not-false (c .before .before .before .before .before .before .before .before .before .before .lent .result) (c .before .before .before .before .before .before .before .before .before .if1 .left), eq-eqb _ _ (c .before .before .before .before .before .before .before .before .if2 .left), eq-eqb _ _ (c .before .before .before .before .before .before .before .if3 .left))) (rw (c .before .before .before .before .spectrum-of .ensures .0, c .before .before .before .before .spectrum-of .ensures .1))))
+    (λ c.
+    let lent = c .before .before .before .before .before .before .before .before .before .before .lent in (
+      pick-yes _ _ _ (rw (← lent .ensures, not-false (lent .result) (c .before .before .before .before .before .before .before .before .before .if1 .left), eq-eqb _ _ (c .before .before .before .before .before .before .before .before .if2 .left), eq-eqb _ _ (c .before .before .before .before .before .before .before .if3 .left))) (rw (c .before .before .before .before .spectrum-of .ensures)),
+      λ (h : 0 ≡ 2). absurd (omega (arith, h)),
+    )))

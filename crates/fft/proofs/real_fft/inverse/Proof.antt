@@ -2,6 +2,7 @@ use mathlib.Core.Path.{refl}
 use borrow.Author.Needs.{needs}
 use borrow.Author.Tests.{eq-eqb, ne-eqb}
 use Rattle.laws.specs.Choice.{pick-yes, pick-no}
+use Rattle.fft.proofs.Sizes.{whole-samples}
 use Rattle.fft.specs.Calls.{inverseOf, samplesOf}
 use Rattle.fft.proofs.real_fft.inverse.Statement.{statement}
 use Rattle.fft.proofs.real_fft.inverse.Tie as tie
@@ -14,10 +15,8 @@ inverse-spec =
     (λ c. pick-no _ _ _ (rw (ne-eqb _ _ (c .if1 .taken))) refl)
     (λ c. pick-no _ _ _ (rw (eq-eqb _ _ (c .before .if1 .left), ne-eqb _ _ (c .if2 .taken))) refl)
     (λ c κs. search needs)
+    (λ c. search needs)
+    (λ c. search needs)
     (λ c κs. search needs)
     (λ c. search needs)
-    (λ c. search needs)
-    (λ c. search needs)
-    (λ c κs. search needs)
-    (λ c. search needs)
-    (λ c. pick-yes _ _ _ (rw (eq-eqb _ _ (c .before .before .before .before .before .before .before .before .before .before .before .if1 .left), eq-eqb _ _ (c .before .before .before .before .before .before .before .before .before .before .if2 .left))) (rw (c .before .before .before .samples-of .ensures .1, c .before .before .before .before .before .before .before .before .reversal-table .ensures, c .before .before .before .before .before .before .before .before .before .recombination .ensures))))
+    (λ c. pick-yes _ _ _ (rw (eq-eqb _ _ (c .before .before .before .before .before .before .before .before .before .if1 .left), eq-eqb _ _ (c .before .before .before .before .before .before .before .before .if2 .left))) (rw (c .before .before .before .samples-of .ensures, c .before .before .before .before .before .before .before .recombination .ensures, whole-samples))))

@@ -11,10 +11,8 @@ inverse-with-spec =
     tie.close
     (tie.spec
     (λ c κs. search needs)
-    (λ c κs. search needs)
     (λ c. search needs)
     (λ c κs. search needs)
-    (λ c. search needs)
     (λ c. search needs)
     (λ c. search needs)
     (λ c. search needs)
@@ -22,7 +20,7 @@ inverse-with-spec =
     (λ c. search needs)
     (λ c. simp length-take (omega arith))
     (λ c κs. search needs)
-    (λ c. simp (length-append, length-drop) (omega (arith, simp length-take at (c .before .before .before .inverse-with .kept .1 .1 .1 .1 .0))))
-    (λ c κs. simp (length-append, length-drop) (omega (arith, simp length-take at (c .before .before .before .before .inverse-with .kept .1 .1 .1 .1 .0))))
+    (λ c. simp (length-append, length-drop) (omega (arith, simp length-take at (c .before .before .before .inverse-with .kept .1 .1 .1 .0))))
+    (λ c κs. simp (length-append, length-drop) (omega (arith, simp length-take at (c .before .before .before .before .inverse-with .kept .1 .1 .1 .0))))
     (λ c. search needs)
     (λ c. search needs))

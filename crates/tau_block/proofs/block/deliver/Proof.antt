@@ -1,5 +1,4 @@
 use Rattle.tau_block.specs.Block.{delivered}
-use native.Mathlib.Omega.{arith}
 use borrow.Author.Needs.{needs}
 use Rattle.tau_block.proofs.block.deliver.Statement.{statement}
 use Rattle.tau_block.proofs.block.deliver.Tie as tie
@@ -11,6 +10,6 @@ deliver-spec =
     (tie.spec
     (λ c κs. search needs)
     (λ c κs. search needs)
-    (λ c κs. c .before .before .before .before .before .before .before .before .before .before .before .before .before .before .before .pre .1 .1)
+    (λ c κs. c .before .before .before .before .before .before .before .before .before .before .before .before .before .before .before .before .before .before .before .pre .1)
     (λ c. search needs)
-    (λ c. rw (← c .before .before .before .before .before .before .before .before .before .before .before .before .before .suppress .ensures, ← c .before .before .before .before .before .before .before .before .guard .ensures, ← c .before .before .before .host-powers .ensures)))
+    (λ c. rw (← c .before .before .before .before .before .before .before .before .before .before .before .before .before .before .suppress .ensures, ← c .before .before .before .before .before .before .guard .ensures, ← c .before .before .host-powers .ensures)))

@@ -1,5 +1,4 @@
 use Rattle.tau_block.specs.Block.{filtered}
-use native.Mathlib.Omega.{arith}
 use borrow.Author.Needs.{needs}
 use Rattle.tau_block.proofs.block.filter.Statement.{statement}
 use Rattle.tau_block.proofs.block.filter.Tie as tie
@@ -9,8 +8,8 @@ unfolding filtered
 filter-spec =
     tie.close
     (tie.spec
-    (λ c κs. let p = c .before .before .before .before .before .before .before .pre in let l = p .1 .1 in (p .0, (p .1 .0, (l .0, l .2, l .3, l .4))))
-    (λ c κs. let p = c .before .before .before .before .before .before .before .before .before .before .before .before .before .before .pre in let l = p .1 .1 in (p .0, (p .1 .0, (l .1, l .2, l .3, l .4))))
+    (λ c κs. let p = c .before .before .before .before .before .before .before .before .before .pre in let l = p .1 in (p .0, (l .0, l .2, l .3, l .4)))
+    (λ c κs. let p = c .before .before .before .before .before .before .before .before .before .before .before .before .before .before .before .before .before .before .before .before .before .pre in let l = p .1 in (p .0, (l .1, l .2, l .3, l .4)))
     (λ c. search needs)
     (λ c. search needs)
-    (λ c. rw (← c .before .before .before .before .before .before .before .before .before .before .before .shadow-estimate .ensures, ← c .before .before .before .before .output-estimate .ensures)))
+    (λ c. rw (← c .before .before .before .before .before .before .before .before .before .before .before .before .before .before .before .before .shadow-estimate .ensures, ← c .before .before .before .before .output-estimate .ensures)))

@@ -10,11 +10,10 @@ hear-spec =
     (tie.spec
     (λ c κs. search needs)
     (λ c κs. search needs)
-    (λ c κs. search needs)
-    (λ c κs. search needs)
+    (λ c κs. let p = c .before .before .before .before .before .before .before .before .pre in (p .0, (p .1 .0, c .before .before .before .next-slot .ensures .1, p .1 .2)))
     (λ c κs. search needs)
     (λ c κs. search needs)
     (λ c κs. search needs)
     (λ c κs. search needs)
     (λ c. search needs)
-    (λ c. (cc, search needs)))
+    (λ c. (cc, c .before .before .before .before .before .before .before .before .before .before .before .next-slot .ensures .1)))

@@ -14,7 +14,6 @@ store-spec =
     (λ c. search needs)
     (λ c. search needs)
     (λ c. search needs)
-    (λ c. search needs)
-    (λ c κs. search needs)
+    (λ c κs. let p = c .before .before .before .before .pre in (p .0, search needs))
     (λ c. search needs)
     (λ c. cc (with-is 514 _ _ _ _ refl)))

@@ -10,13 +10,13 @@ suppress-spec =
     tie.close
     (tie.spec
     (λ c κs. search needs)
+    (λ c. search needs)
     (λ c κs. search needs)
     (λ c κs. search needs)
     (λ c κs. search needs)
     (λ c κs. search needs)
+    (λ c. search needs)
     (λ c κs. search needs)
     (λ c κs. search needs)
-    (λ c κs. search needs)
-    (λ c κs. search needs)
-    (λ c. pick-yes _ _ _ (c .before .before .before .before .before .before .before .before .before .before .before .before .before .before .before .before .before .before .before .if1 .taken) (rw (c .later-half .ensures, c .before .samples .ensures, c .before .before .shape .ensures, c .before .before .before .before .before .averages .ensures, c .before .before .before .before .before .before .before .gains .ensures, c .before .before .before .before .before .before .before .before .before .before .bin-powers2 .ensures, c .before .before .before .before .before .before .before .before .before .before .before .before .bin-powers .ensures, c .before .before .before .before .before .before .before .before .before .before .before .before .before .before .before .before .before .spectrum .ensures, c .before .before .before .before .before .before .before .before .before .before .before .before .before .before .before .before .before .before .before .before .slide .ensures)))
+    (λ c. pick-yes _ _ _ (c .before .before .before .before .before .before .before .before .before .before .before .before .before .before .before .before .before .before .before .before .before .before .before .if1 .taken) (rw (c .later-half .ensures, c .before .before .before .before .before .shape .ensures, c .before .before .before .before .before .before .before .before .gains .ensures, c .before .before .before .before .before .before .before .before .before .before .before .before .bin-powers2 .ensures, c .before .before .before .before .before .before .before .before .before .before .before .before .before .before .before .bin-powers .ensures, c .before .before .before .before .before .before .before .before .before .before .before .before .before .before .before .before .before .before .spectrum .ensures, c .before .before .before .before .before .before .before .before .before .before .before .before .before .before .before .before .before .before .before .before .before .before .before .before .slide .ensures)))
     (λ c. pick-no _ _ _ (c .if1 .left) (rw (c .before .slide .ensures))))

@@ -1,5 +1,5 @@
 use mathlib.Core.Path.{ap, _∙_}
-use Rattle.fft.specs.Calls.{Worked, spectrumOf}
+use Rattle.fft.specs.Calls.{Wrote, spectrumOf}
 use Rattle.fft.proofs.Served.{forward-with-served}
 use borrow.Author.Needs.{needs}
 use Rattle.tau_block.proofs.transform.spectrum.Statement.{statement}
@@ -10,7 +10,6 @@ unfolding spectrumOf
 spectrum-spec =
     tie.close
     (tie.spec
-    (λ c. search needs)
-    (λ c. search needs)
     (λ c κs. search needs)
-    (λ c. let p = c .before .before .before .before .before .before .before .pre in rw (p .0, p .1) at (ap (λ (w : Worked). w .out) (c .before .forward-with .ensures ∙ forward-with-served _ _ _ (search needs) (search needs) (search needs) _ _ (search needs) (search needs)))))
+    (λ c. search needs)
+    (λ c. rw (c .before .before .before .before .before .before .before .before .pre .0) at (ap (λ (w : Wrote). w .out) (c .before .before .forward-with .ensures .0 ∙ forward-with-served _ _ (search needs) (search needs) _ _ (search needs) (search needs)))))

@@ -1,0 +1,9 @@
+pub mod Spans
+pub mod Places
+pub mod Reversing
+pub mod Permuted
+pub mod Stages
+pub mod Keeps
+pub mod Sizes
+pub mod Marked
+pub mod Served

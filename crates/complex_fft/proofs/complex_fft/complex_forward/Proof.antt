@@ -1,0 +1,21 @@
+use mathlib.Core.Path.{refl}
+use borrow.Author.Needs.{needs}
+use borrow.Author.Tests.{eq-eqb, ne-eqb}
+use Rattle.laws.specs.Choice.{pick-yes, pick-no}
+use Rattle.complex_fft.specs.Calls.{complexOf}
+use Rattle.complex_fft.proofs.complex_fft.complex_forward.Statement.{statement}
+use Rattle.complex_fft.proofs.complex_fft.complex_forward.Tie as tie
+
+pub complex-forward-spec : {M : Type 1} → statement M
+unfolding complexOf
+complex-forward-spec =
+    tie.close
+    (tie.spec
+    (λ c. pick-no _ _ _ (ne-eqb _ _ (c .if1 .taken)) refl)
+    (λ c κs. search needs)
+    (λ c κs. search needs)
+    (λ c. search needs)
+    (λ c. search needs)
+    (λ c κs. search needs)
+    (λ c. search needs)
+    (λ c. pick-yes _ _ _ (eq-eqb _ _ (c .before .before .before .before .before .before .before .before .if1 .left)) (rw (c .before .before .run .ensures, c .before .before .before .before .before .before .reversal-table .ensures, c .before .before .before .before .before .before .before .recombination .ensures))))

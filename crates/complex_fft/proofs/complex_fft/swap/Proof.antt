@@ -1,0 +1,16 @@
+use borrow.Author.Needs.{needs}
+use Rattle.complex_fft.specs.ComplexFft.{swapAt}
+use Rattle.complex_fft.proofs.complex_fft.swap.Statement.{statement}
+use Rattle.complex_fft.proofs.complex_fft.swap.Tie as tie
+
+pub swap-spec : {M : Type 1} → statement M
+unfolding swapAt
+swap-spec =
+    tie.close
+    (tie.spec
+    (λ c κs. search needs)
+    (λ c κs. search needs)
+    (λ c κs. search needs)
+    (λ c κs. search needs)
+    (λ c. search needs)
+    (λ c. rw (c .before .before .put2 .ensures, c .before .before .before .before .before .before .put .ensures, c .before .before .before .before .before .before .before .before .get2 .ensures, c .before .before .before .before .before .before .before .before .before .before .get .ensures)))

@@ -1,0 +1,4 @@
+pub mod Reversal
+pub mod ComplexFft
+pub mod Calls
+pub mod Marked

@@ -1,9 +1,0 @@
--- M7: antt computes it. Assumes nothing.
-use mathlib.Core.Path.{refl}
-use Rattle.laws.specs.Tables.{table}
-use Rattle.fft.specs.Reversal.{reversalTable}
-use Rattle.fft.specs.Marked.{M7}
-
-pub m7 : M7
-unfolding reversalTable table
-m7 = (refl, refl, refl)

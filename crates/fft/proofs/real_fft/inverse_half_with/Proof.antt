@@ -1,0 +1,41 @@
+use mathlib.Core.Path.{_≡_, refl}
+use native.Mathlib.Omega.{arith}
+use borrow.Author.Needs.{needs}
+use borrow.Author.Tests.{eq-eqb, ne-eqb, not-true, not-false}
+use Rattle.laws.specs.Choice.{pick-yes, pick-no}
+use Rattle.fft.specs.Calls.{halfWithOf}
+use Rattle.fft.proofs.Lengths.{lengths}
+use Rattle.fft.proofs.Sizes.{later-half, first-half}
+use Rattle.fft.proofs.real_fft.inverse_half_with.Statement.{statement}
+use Rattle.fft.proofs.real_fft.inverse_half_with.Tie as tie
+
+pub inverse-half-with-spec : {M : Type 1} → statement M
+unfolding halfWithOf
+inverse-half-with-spec =
+    tie.close
+    (tie.spec
+    (λ c κs. search needs)
+    (λ c. search needs)
+    (λ c. let lent = c .before .lent in (pick-no _ _ _ (rw (← lent .ensures, not-true (lent .result) (c .if1 .taken))) refl, λ _. refl))
+    (λ c. search needs)
+    (λ c. let lent = c .before .before .lent in (pick-no _ _ _ (rw (← lent .ensures, not-false (lent .result) (c .before .if1 .left), ne-eqb _ _ (c .if2 .taken))) refl, λ _. refl))
+    (λ c. search needs)
+    (λ c. let lent = c .before .before .before .lent in (pick-no _ _ _ (rw (← lent .ensures, not-false (lent .result) (c .before .before .if1 .left), eq-eqb _ _ (c .before .if2 .left), ne-eqb _ _ (c .if3 .taken))) refl, λ _. refl))
+    (λ c κs. let lent = c .before .before .before .before .before .before .lent in let n = lengths (c .before .before .before .before .before .before .before .before .before .before .before .before .args .table .now) (c .before .before .before .before .before .before .before .before .before .before .before .before .args .scratch .now) (lent .result) (lent .ensures) (c .before .before .before .before .before .if1 .left) in search (needs, n))
+    (λ c κs. let lent = c .before .before .before .before .before .before .lent in let n = lengths (c .before .before .before .before .before .before .before .before .before .before .before .before .args .table .now) (c .before .before .before .before .before .before .before .before .before .before .before .before .args .scratch .now) (lent .result) (lent .ensures) (c .before .before .before .before .before .if1 .left) in search (needs, n))
+    (λ c. search needs)
+    (λ c. search needs)
+    (λ c.
+    let lent = c .before .before .before .before .before .before .before .before .before .before .before .lent in (
+      pick-yes _ _ _ (rw (← lent .ensures, not-false (lent .result) (c .before .before .before .before .before .before .before .before .before .before .if1 .left), eq-eqb _ _ (c .before .before .before .before .before .before .before .before .before .if2 .left), eq-eqb _ _ (c .before .before .before .before .before .before .before .before .if3 .left)))
+          (rw (c .before .before .before .before .samples-of .ensures, later-half _ _ _ _ (c .before .before .before .before .before .before .before .if4 .taken))),
+      λ (h : 0 ≡ 2). absurd (omega (arith, h)),
+    ))
+    (λ c. search needs)
+    (λ c. search needs)
+    (λ c.
+    let lent = c .before .before .before .before .before .before .before .before .before .before .before .lent in (
+      pick-yes _ _ _ (rw (← lent .ensures, not-false (lent .result) (c .before .before .before .before .before .before .before .before .before .before .if1 .left), eq-eqb _ _ (c .before .before .before .before .before .before .before .before .before .if2 .left), eq-eqb _ _ (c .before .before .before .before .before .before .before .before .if3 .left)))
+          (rw (c .before .before .before .before .samples-of2 .ensures, first-half _ _ (c .before .before .before .before .before .before .before .if4 .left))),
+      λ (h : 0 ≡ 2). absurd (omega (arith, h)),
+    )))

@@ -1,9 +1,0 @@
-use mathlib.Core.Path.{refl}
-use Rattle.laws.specs.Tables.{table}
-use Rattle.fft.specs.Reversal.{reversalTable}
-use Rattle.fft.proofs.reversal.reversal_table.Statement.{statement}
-use Rattle.fft.proofs.reversal.reversal_table.Tie as tie
-
-pub reversal-table-spec : {M : Type 1} → statement M
-unfolding reversalTable table
-reversal-table-spec = tie.close (tie.spec (λ c. refl))

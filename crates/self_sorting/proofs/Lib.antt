@@ -1,0 +1,4 @@
+pub mod Rows
+pub mod InPass
+pub mod Values
+pub mod Sorting

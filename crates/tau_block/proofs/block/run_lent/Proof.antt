@@ -1,0 +1,18 @@
+use Rattle.tau_block.specs.Block.{runBlock}
+use native.Mathlib.Omega.{arith}
+use borrow.Author.Needs.{needs}
+use Rattle.tau_block.proofs.block.run_lent.Statement.{statement}
+use Rattle.tau_block.proofs.block.run_lent.Tie as tie
+
+pub run-lent-spec : {M : Type 1} → statement M
+unfolding runBlock
+run-lent-spec =
+    tie.close
+    (tie.spec
+    (λ c κs. search needs)
+    (λ c κs. let p = c .before .before .before .before .before .before .before .before .pre in (c .before .before .before .before .recombination .ensures, (p .0 .2, p .1 .0, p .1 .1)))
+    (λ c κs. let p = c .before .before .before .before .before .before .before .before .before .before .before .before .before .before .before .before .before .before .before .before .before .before .before .pre in (c .before .before .before .before .before .before .before .before .before .before .before .before .before .before .before .before .before .before .before .recombination .ensures, (p .0 .0, p .0 .1, omega (arith, p .0, c .before .before .before .before .before .before .before .before .before .before .before .before .before .before .hear .kept), c .before .before .before .before .before .before .before .before .before .before .before .before .before .before .hear .ensures .1, p .1 .1, p .1 .2)))
+    (λ c. search needs)
+    (λ c. search needs)
+    (λ c. omega (arith, c .before .before .before .before .before .before .before .before .before .before .before .before .before .before .before .before .before .before .before .before .hear .kept))
+    (λ c. rw (← c .before .before .before .before .before .before .before .before .before .before .before .before .before .before .before .before .before .before .before .before .hear .ensures .0, ← c .before .before .before .before .before .run-mic .ensures)))
