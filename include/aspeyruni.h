@@ -3,6 +3,7 @@
  *
  * A buffer is a pointer and how many numbers it has. A state is passed by value, and comes back in the answer; any state may be passed,
  * and a bad one is refused. For an answer that is a struct the caller gives the place, before all else.
+ * Two states are the same where their fields are: the bytes between fields hold anything, so memcmp may not be asked.
  *
  * Refusals: 0 none, 1 a setting outside its range, 2 a lent buffer that has not exactly the needed length, 3 near and far of different
  * lengths, 4 more than 4,096 pairs in one call, 5 an output buffer shorter than the call would deliver, 6 a state with a number outside

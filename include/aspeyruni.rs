@@ -5,6 +5,7 @@
 //! A buffer is a slice, which the library is passed as a pointer and a length. A state is passed by value, and comes back in the answer;
 //! any state may be passed, and a bad one is refused. For an answer that is a struct the library is given the place, before all else:
 //! x86-64 passes an answer of this size so, and the library, which is written for x86-64, does it on every processor (oracle/library).
+//! Two states are the same where their fields are: the bytes between fields hold anything, and may not be compared.
 //!
 //! Refusals: 0 none, 1 a setting outside its range, 2 a lent buffer that has not exactly the needed length, 3 near and far of different
 //! lengths, 4 more than 4,096 pairs in one call, 5 an output buffer shorter than the call would deliver, 6 a state with a number outside
