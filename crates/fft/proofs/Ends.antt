@@ -1,5 +1,6 @@
 -- What the loops of the real transform start from and read. Assumes nothing.
 use mathlib.Core.Path.{_≡_, _∙_, refl, ap}
+use mathlib.Core.Bool.{false}
 use mathlib.Core.List.{List, [], _∷_}
 use Prim.Native.Nat.{ℕ, _-_, _%_, _≤_, _<_}
 use native.Mathlib.Omega.{arith}
@@ -10,8 +11,10 @@ use Rattle.laws.specs.Tables.{table2-at}
 use Rattle.complex.specs.declared.Complex.{Complex}
 use Rattle.complex.specs.Complexes.{newC, getC, putC}
 use Rattle.self_sorting.specs.Quads.{getS}
-use Rattle.self_sorting.specs.Passes.{pointsOf}
-use Rattle.fft.specs.RealFft.{binFrom, binOf, halfOf, halvesOf}
+use Rattle.complex_fft.specs.Reversal.{reversalTable}
+use Rattle.self_sorting.specs.Passes.{loaded, pointsOf, passes}
+use Rattle.self_sorting.proofs.Sorting.{forward-run}
+use Rattle.fft.specs.RealFft.{binFrom, binOf, binsOf, halfOf, halvesOf, spectrumWith}
 
 -- a loop may start where the first number is put already
 pub over2-first : (f g : ℕ → Float) (e : List Float) → 2 ≤ length e
@@ -38,3 +41,8 @@ pub bin-there : (t z : List Float) (k here mirror : ℕ) → here ≡ k % 256 �
 unfolding binOf
 bin-there t z k here mirror e f =
     from-eq (getC t k) (points-at z here (omega arith) ∙ ap (getC (pointsOf z)) e) (points-at z mirror (omega arith) ∙ ap (getC (pointsOf z)) f)
+
+-- the bins of what was loaded and passed are the spectrum
+pub loaded-bins : (t x z : List Float) → length x ≡ 512 → length z ≡ 1024 → binsOf t (pointsOf (passes t false (loaded x z))) ≡ spectrumWith t reversalTable x
+unfolding spectrumWith
+loaded-bins t x z h k = ap (binsOf t) (forward-run t x z h k)

@@ -10,10 +10,11 @@ use self_sorting::all_passes;
 use self_sorting::get_split;
 use self_sorting::put_split;
 ghost use mathlib.Core.Path.{_≡_};
+ghost use mathlib.Core.Bool.{false};
 ghost use Prim.Native.Nat.{_+_, _*_, _-_, _%_, _≤_};
 ghost use lib.ListN.{length, take, drop};
 ghost use Rattle.complex_fft.specs.Reversal.{reversalTable};
-ghost use Rattle.self_sorting.specs.Passes.{loaded, pointsOf};
+ghost use Rattle.self_sorting.specs.Passes.{loaded, pointsOf, passes};
 ghost use Rattle.fft.specs.Calls.{forwardOf, forwardWithOf, inverseOf, inverseWithOf, halfWithOf, lentOf};
 ghost use Rattle.fft.specs.RealFft.{binFrom, binOf, binsOf, halfOf, halvesOf, spectrumWith, samplesWith};
 ghost use Rattle.fft.specs.Scratch.{scaledFrom};
@@ -100,14 +101,14 @@ fn recombine(z: &[f64], table: &[f64], out: &mut [f64])
     put(out, 256, last);
 }
 
-fn spectrum_of(z: &mut [f64], table: &[f64], input: &[f32], out: &mut [f64])
+// The passes and the bins of what was loaded. The samples are not seen here: a window that goes into a large function by reference
+// would cost its owner a copy.
+fn transform_loaded(z: &mut [f64], table: &[f64], out: &mut [f64])
     requires { ⌜ length (now z) ≡ 1024 ⌝ }
     requires { ⌜ length (now table) ≡ 514 ⌝ }
-    requires { ⌜ length (now input) ≡ 512 ⌝ }
     requires { ⌜ length (now out) ≡ 514 ⌝ }
-    ensures { λ _. ⌜ now (out .exit) ≡ spectrumWith (now (table .entry)) reversalTable (now (input .entry)) ⌝ }
+    ensures { λ _. ⌜ now (out .exit) ≡ binsOf (now (table .entry)) (pointsOf (passes (now (table .entry)) false (now (z .entry)))) ⌝ }
 {
-    load_samples(input, z);
     all_passes(z, table, false);
     recombine(z, table, out);
 }
@@ -159,7 +160,8 @@ pub fn forward(input: &[f32], out: &mut [f64]) -> u32
     let table = trig::recombination();
     let zero = Complex::ZERO;
     let mut scratch = [zero.re; 1024];
-    spectrum_of(&mut scratch, &table, input, out);
+    load_samples(input, &mut scratch);
+    transform_loaded(&mut scratch, &table, out);
     DONE
 }
 
@@ -204,7 +206,8 @@ pub fn forward_with(table: &[f64], scratch: &mut [f64], samples: &[f32], bins: &
     if bins.len() != 514 {
         return WRONG_LENGTH;
     }
-    spectrum_of(scratch, table, samples, bins);
+    load_samples(samples, scratch);
+    transform_loaded(scratch, table, bins);
     DONE
 }
 

@@ -1,6 +1,7 @@
 pub mod Later
 pub mod Accepted
 pub mod Going
+pub mod Waits
 pub mod Ended
 pub mod Counts
 pub mod Cut

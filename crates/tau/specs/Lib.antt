@@ -1,5 +1,6 @@
 pub mod Fresh
 pub mod Pairs
+pub mod Lent
 pub mod Calls
 pub mod Stream
 pub mod Marked

@@ -2,19 +2,27 @@
 use crate::frame::Framed;
 use crate::frame::flush_block;
 use crate::frame::run;
+use crate::frame::stay;
+use crate::frame::wait;
 use crate::fresh::empty;
 use crate::fresh::fresh;
 use crate::refusals::create_refusal;
 use crate::refusals::flush_refusal;
 use crate::refusals::process_refusal;
 use crate::refusals::state_refusal;
+use tau_steps::lent::Rest;
+use tau_steps::lent::rest_of;
+use tau_steps::lent::whole;
 use tau_steps::report::Outcome;
 use tau_steps::report::Report;
 use tau_steps::report::report_of;
 use tau_steps::state::TauCanceller;
 use tau_steps::weights::clear;
 ghost use mathlib.Core.Path.{_≡_};
-ghost use Rattle.tau.specs.Calls.{answerOf, createOf, processOf, flushOf, resetOf};
+ghost use lib.ListN.{length};
+ghost use Rattle.tau_steps.specs.Lent.{suppressorOf, wholeOf};
+ghost use Rattle.tau.specs.Lent.{engineOf};
+ghost use Rattle.tau.specs.Calls.{processRefusal, flushRefusal, answerOf, createOf, processOf, flushOf, resetOf};
 
 // What creation and reset answer.
 #[repr(C)]
@@ -89,6 +97,54 @@ pub fn reset(
     }
 }
 
+// A process over the state taken apart. Refused, it changes nothing; where no block is filled, its pairs wait.
+fn process_lent(
+    refusal: u32,
+    start: Rest,
+    near_carry: &mut [f32; 256],
+    far_carry: &mut [f32; 256],
+    far_window: &mut [f32; 512],
+    means: &mut [f64; 257],
+    echo: &mut [f64; 257],
+    err: &mut [f64; 257],
+    gain: &mut [f64; 257],
+    window: &mut [f32; 512],
+    shadow: &mut [f64],
+    output: &mut [f64],
+    spectra: &mut [f64],
+    near: &[f32],
+    far: &[f32],
+    out: &mut [f32],
+) -> Framed
+    requires { ⌜ (length (now «near_carry») ≡ 256) × (length (now «far_carry») ≡ 256) ⌝ }
+    requires { ⌜ refusal ≡ processRefusal (wholeOf start (now «near_carry») (now «far_carry») (now «far_window») (now means) (suppressorOf (now echo) (now err) (now gain) (now window))) (length (now shadow)) (length (now output)) (length (now spectra)) (length (now near)) (length (now far)) (length (now out)) ⌝ }
+    ensures { λ r. ⌜ record { answer = answerOf refusal (r .delivered) (wholeOf (r .rest) (now («near_carry» .exit)) (now («far_carry» .exit)) (now («far_window» .exit)) (now (means .exit)) (suppressorOf (now (echo .exit)) (now (err .exit)) (now (gain .exit)) (now (window .exit)))) (r .last); shadow = now (shadow .exit); output = now (output .exit); spectra = now (spectra .exit); out = now (out .exit) } ≡ processOf (engineOf start (now («near_carry» .entry)) (now («far_carry» .entry)) (now («far_window» .entry)) (now (means .entry)) (suppressorOf (now (echo .entry)) (now (err .entry)) (now (gain .entry)) (now (window .entry))) (now (shadow .entry)) (now (output .entry)) (now (spectra .entry))) (now (near .entry)) (now (far .entry)) (now (out .entry)) ⌝ }
+{
+    if refusal != 0 {
+        return stay(start);
+    }
+    if start.carried + near.len() < 256 {
+        return wait(start, near_carry, far_carry, near, far);
+    }
+    run(
+        start,
+        near_carry,
+        far_carry,
+        far_window,
+        means,
+        echo,
+        err,
+        gain,
+        window,
+        shadow,
+        output,
+        spectra,
+        near,
+        far,
+        out,
+    )
+}
+
 pub fn process(
     s: TauCanceller,
     shadow: &mut [f64],
@@ -109,11 +165,86 @@ pub fn process(
         far.len(),
         out.len(),
     );
+    let mut near_carry = s.near_carry;
+    let mut far_carry = s.far_carry;
+    let mut far_window = s.far.window;
+    let mut means = s.mic.far_power_mean;
+    let mut echo = s.mic.suppressor.echo_power;
+    let mut err = s.mic.suppressor.error_power;
+    let mut gain = s.mic.suppressor.gain;
+    let mut window = s.mic.suppressor.error_window;
+    let framed = process_lent(
+        refusal,
+        rest_of(s),
+        &mut near_carry,
+        &mut far_carry,
+        &mut far_window,
+        &mut means,
+        &mut echo,
+        &mut err,
+        &mut gain,
+        &mut window,
+        shadow,
+        output,
+        spectra,
+        near,
+        far,
+        out,
+    );
+    let state = whole(
+        s,
+        framed.rest,
+        near_carry,
+        far_carry,
+        far_window,
+        means,
+        echo,
+        err,
+        gain,
+        window,
+    );
+    let last = framed.last;
+    answer_of(refusal, framed.delivered, state, last)
+}
+
+// A flush over the state taken apart. Refused, it changes nothing.
+fn flush_lent(
+    refusal: u32,
+    start: Rest,
+    near_carry: &[f32; 256],
+    far_carry: &[f32; 256],
+    far_window: &mut [f32; 512],
+    means: &mut [f64; 257],
+    echo: &mut [f64; 257],
+    err: &mut [f64; 257],
+    gain: &mut [f64; 257],
+    window: &mut [f32; 512],
+    shadow: &mut [f64],
+    output: &mut [f64],
+    spectra: &mut [f64],
+    out: &mut [f32],
+) -> Framed
+    requires { ⌜ refusal ≡ flushRefusal (wholeOf start (now «near_carry») (now «far_carry») (now «far_window») (now means) (suppressorOf (now echo) (now err) (now gain) (now window))) (length (now shadow)) (length (now output)) (length (now spectra)) (length (now out)) ⌝ }
+    ensures { λ r. ⌜ record { answer = answerOf refusal (r .delivered) (wholeOf (r .rest) (now («near_carry» .entry)) (now («far_carry» .entry)) (now («far_window» .exit)) (now (means .exit)) (suppressorOf (now (echo .exit)) (now (err .exit)) (now (gain .exit)) (now (window .exit)))) (r .last); shadow = now (shadow .exit); output = now (output .exit); spectra = now (spectra .exit); out = now (out .exit) } ≡ flushOf (engineOf start (now («near_carry» .entry)) (now («far_carry» .entry)) (now («far_window» .entry)) (now (means .entry)) (suppressorOf (now (echo .entry)) (now (err .entry)) (now (gain .entry)) (now (window .entry))) (now (shadow .entry)) (now (output .entry)) (now (spectra .entry))) (now (out .entry)) ⌝ }
+{
     if refusal != 0 {
-        return answer_of(refusal, 0, s, Outcome::NotRun);
+        return stay(start);
     }
-    let f = run(s, shadow, output, spectra, near, far, out);
-    served(f)
+    flush_block(
+        start,
+        near_carry,
+        far_carry,
+        far_window,
+        means,
+        echo,
+        err,
+        gain,
+        window,
+        shadow,
+        output,
+        spectra,
+        out,
+    )
 }
 
 pub fn flush(
@@ -126,17 +257,42 @@ pub fn flush(
     ensures { λ r. ⌜ record { answer = r; shadow = now (shadow .exit); output = now (output .exit); spectra = now (spectra .exit); out = now (out .exit) } ≡ flushOf (record { state = s; shadow = now (shadow .entry); output = now (output .entry); spectra = now (spectra .entry) }) (now (out .entry)) ⌝ }
 {
     let refusal = flush_refusal(s, shadow.len(), output.len(), spectra.len(), out.len());
-    if refusal != 0 {
-        return answer_of(refusal, 0, s, Outcome::NotRun);
-    }
-    let f = flush_block(s, shadow, output, spectra, out);
-    served(f)
-}
-
-fn served(f: Framed) -> Answer
-    ensures { λ r. ⌜ r ≡ answerOf 0 (f .delivered) (f .state) (f .last) ⌝ }
-{
-    let t = f.state;
-    let o = f.last;
-    answer_of(0, f.delivered, t, o)
+    let near_carry = s.near_carry;
+    let far_carry = s.far_carry;
+    let mut far_window = s.far.window;
+    let mut means = s.mic.far_power_mean;
+    let mut echo = s.mic.suppressor.echo_power;
+    let mut err = s.mic.suppressor.error_power;
+    let mut gain = s.mic.suppressor.gain;
+    let mut window = s.mic.suppressor.error_window;
+    let framed = flush_lent(
+        refusal,
+        rest_of(s),
+        &near_carry,
+        &far_carry,
+        &mut far_window,
+        &mut means,
+        &mut echo,
+        &mut err,
+        &mut gain,
+        &mut window,
+        shadow,
+        output,
+        spectra,
+        out,
+    );
+    let state = whole(
+        s,
+        framed.rest,
+        near_carry,
+        far_carry,
+        far_window,
+        means,
+        echo,
+        err,
+        gain,
+        window,
+    );
+    let last = framed.last;
+    answer_of(refusal, framed.delivered, state, last)
 }

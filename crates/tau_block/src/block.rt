@@ -10,12 +10,13 @@ use crate::update::adapt_shadow;
 use tau_steps::detector::DTD_ESTABLISH_BLOCKS;
 use tau_steps::detector::double_talk_block;
 use tau_steps::guard::guard;
+use tau_steps::lent::rest_of;
+use tau_steps::lent::whole;
 use tau_steps::paths::Compared;
 use tau_steps::paths::compare;
 use tau_steps::powers::host_powers;
 use tau_steps::report::Outcome;
 use tau_steps::state::Detector;
-use tau_steps::state::Far;
 use tau_steps::state::FarRest;
 use tau_steps::state::Guard;
 use tau_steps::state::Mic;
@@ -474,29 +475,13 @@ pub fn run_block(
     let mut err = s.mic.suppressor.error_power;
     let mut gain = s.mic.suppressor.gain;
     let mut window = s.mic.suppressor.error_window;
-    let det = s.mic.detector;
-    let pat = s.mic.paths;
-    let gua = s.mic.guard;
-    let pow = s.mic.powers;
-    let fr = FarRest {
-        head: s.far.head,
-        far_active: s.far.far_active,
-        far_energy_peak: s.far.far_energy_peak,
-    };
-    let mr = MicRest {
-        detector: det,
-        paths: pat,
-        guard: gua,
-        powers: pow,
-        transfers: s.mic.transfers,
-        divergence_resets: s.mic.divergence_resets,
-    };
     let mut block = [0.0f32; 256];
-    let b = run_lent(
-        s.partitions,
-        s.suppress,
-        fr,
-        mr,
+    let mut rest = rest_of(s);
+    let ran = run_lent(
+        rest.partitions,
+        rest.suppress,
+        rest.far,
+        rest.mic,
         &near,
         &far,
         valid,
@@ -512,44 +497,27 @@ pub fn run_block(
         output,
         spectra,
     );
-    let x = b.far;
-    let m = b.mic;
-    let d2 = m.detector;
-    let p2 = m.paths;
-    let g2 = m.guard;
-    let w2 = m.powers;
+    let heard = ran.far;
+    let mic = ran.mic;
+    let outcome = ran.outcome;
+    rest.far = heard;
+    rest.mic = mic;
     let near_carry = s.near_carry;
     let far_carry = s.far_carry;
-    let outcome = b.outcome;
+    let state = whole(
+        s,
+        rest,
+        near_carry,
+        far_carry,
+        far_window,
+        means,
+        echo,
+        err,
+        gain,
+        window,
+    );
     Blocked {
-        state: TauCanceller {
-            partitions: s.partitions,
-            suppress: s.suppress,
-            carried: s.carried,
-            near_carry,
-            far_carry,
-            far: Far {
-                window: far_window,
-                head: x.head,
-                far_active: x.far_active,
-                far_energy_peak: x.far_energy_peak,
-            },
-            mic: Mic {
-                detector: d2,
-                paths: p2,
-                far_power_mean: means,
-                suppressor: Suppressor {
-                    echo_power: echo,
-                    error_power: err,
-                    gain,
-                    error_window: window,
-                },
-                guard: g2,
-                powers: w2,
-                transfers: m.transfers,
-                divergence_resets: m.divergence_resets,
-            },
-        },
+        state,
         block,
         outcome,
     }

@@ -11,15 +11,15 @@ use tau_steps::clears::diverge_shadow;
 use tau_steps::state::Paths;
 use tau_steps::sums::smooth;
 ghost use mathlib.Core.Path.{_≡_};
-ghost use mathlib.Core.Bool.{_&&_};
-ghost use mathlib.Core.List.{_++_};
 ghost use Prim.Native.Nat.{_≤_, _<_, _*_};
 ghost use lib.ListN.{length, drop, replicate};
-ghost use lib.Ieee.{nan, binary64, add};
+ghost use lib.Ieee.{binary64, add};
 ghost use Rattle.laws.specs.Loops.{over};
 ghost use Rattle.trig.specs.Tables.{recombination};
+ghost use Rattle.fft.specs.Calls.{spectrumOf};
 ghost use Rattle.tau_steps.specs.Constants.{zero32};
 ghost use Rattle.tau_block.specs.Lent.{updatedOf};
+ghost use Rattle.tau_block.specs.Far.{slid};
 ghost use Rattle.tau_block.specs.Bins.{powerAt};
 ghost use Rattle.tau_block.specs.Update.{farPowerTo, factorOf, rateOf, ratesOf, meansOf, gradientOf, constrained, stepped, finiteTo, learntTo, verdictOn, updated};
 
@@ -194,6 +194,33 @@ pub struct UpdatedRest {
     pub divergence_resets: u64,
 }
 
+// The error behind 256 zeros.
+fn error_spectrum(
+    table: &[f64; 514],
+    scratch: &mut [f64; 1024],
+    error: &[f32; 256],
+    bins: &mut [f64; 514],
+)
+    requires { ⌜ now table ≡ recombination ⌝ }
+    ensures { λ _. ⌜ now (bins .exit) ≡ spectrumOf (slid (replicate 512 zero32) (now (error .entry))) ⌝ }
+{
+    let mut framed = [0.0f32; 512];
+    slide(&mut framed, error);
+    spectrum(table, scratch, &framed, bins);
+}
+
+// Each bin's step, by the means as they were, and then the means with this block's powers.
+fn next_steps(xs: &[f64], parts: usize, scale: f64, means: &mut [f64; 257], steps: &mut [f64; 257])
+    requires { ⌜ (length (now xs) ≡ 514 * parts) × (parts ≤ 32) ⌝ }
+    ensures { λ _. ⌜ now (steps .exit) ≡ ratesOf scale (now (means .entry)) (farPowerTo (now (xs .entry)) parts) ⌝ }
+    ensures { λ _. ⌜ now (means .exit) ≡ meansOf (farPowerTo (now (xs .entry)) parts) (now (means .entry)) ⌝ }
+{
+    let mut powers = [0.0f64; 257];
+    far_power(xs, parts, &mut powers);
+    rates(scale, means, &powers, steps);
+    new_means(&powers, means);
+}
+
 pub fn adapt_shadow(
     table: &[f64; 514],
     scratch: &mut [f64; 1024],
@@ -214,14 +241,9 @@ pub fn adapt_shadow(
 {
     if on {
         let mut e = [0.0f64; 514];
-        let mut powers = [0.0f64; 257];
         let mut steps = [0.0f64; 257];
-        let mut framed = [0.0f32; 512];
-        slide(&mut framed, error);
-        spectrum(table, scratch, &framed, &mut e);
-        far_power(xs, parts, &mut powers);
-        rates(scale, means, &powers, &mut steps);
-        new_means(&powers, means);
+        error_spectrum(table, scratch, error, &mut e);
+        next_steps(xs, parts, scale, means, &mut steps);
         let good = learn(table, scratch, parts, head, xs, &e, &steps, shadow);
         return judge(good, means, p, resets, shadow);
     }

@@ -3,6 +3,7 @@
 pub mod clears;
 pub mod detector;
 pub mod guard;
+pub mod lent;
 pub mod paths;
 pub mod powers;
 pub mod ranges;

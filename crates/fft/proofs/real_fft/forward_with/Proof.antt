@@ -5,6 +5,7 @@ use borrow.Author.Tests.{eq-eqb, ne-eqb, not-true, not-false}
 use Rattle.laws.specs.Choice.{pick-yes, pick-no}
 use Rattle.fft.specs.Calls.{forwardWithOf}
 use Rattle.fft.proofs.Lengths.{lengths}
+use Rattle.fft.proofs.Ends.{loaded-bins}
 use Rattle.fft.proofs.real_fft.forward_with.Statement.{statement}
 use Rattle.fft.proofs.real_fft.forward_with.Tie as tie
 
@@ -15,16 +16,18 @@ forward-with-spec =
     (tie.spec
     (λ c κs. search needs)
     (λ c. search needs)
-    (λ c. let lent = c .before .lent in (pick-no _ _ _ (rw (← lent .ensures, not-true (lent .result) (c .if1 .taken))) refl, λ _. refl))
+    (λ c. (pick-no _ _ _ (rw (← c .before .lent .ensures, not-true (c .before .lent .result) (c .if1 .taken))) refl, λ _. refl))
     (λ c. search needs)
-    (λ c. let lent = c .before .before .lent in (pick-no _ _ _ (rw (← lent .ensures, not-false (lent .result) (c .before .if1 .left), ne-eqb _ _ (c .if2 .taken))) refl, λ _. refl))
+    (λ c. (pick-no _ _ _ (rw (← c .before .before .lent .ensures, not-false (c .before .before .lent .result) (c .before .if1 .left), ne-eqb _ _ (c .if2 .taken))) refl, λ _. refl))
     (λ c. search needs)
-    (λ c. let lent = c .before .before .before .lent in (pick-no _ _ _ (rw (← lent .ensures, not-false (lent .result) (c .before .before .if1 .left), eq-eqb _ _ (c .before .if2 .left), ne-eqb _ _ (c .if3 .taken))) refl, λ _. refl))
-    (λ c κs. let lent = c .before .before .before .before .before .lent in let n = lengths (c .before .before .before .before .before .before .before .before .before .before .before .args .table .now) (c .before .before .before .before .before .before .before .before .before .before .before .args .scratch .now) (lent .result) (lent .ensures) (c .before .before .before .before .if1 .left) in search (needs, n))
+    (λ c. (pick-no _ _ _ (rw (← c .before .before .before .lent .ensures, not-false (c .before .before .before .lent .result) (c .before .before .if1 .left), eq-eqb _ _ (c .before .if2 .left), ne-eqb _ _ (c .if3 .taken))) refl, λ _. refl))
+    (λ c κs. let n = lengths (c .before .before .before .before .before .before .before .before .before .before .args .table .now) (c .before .before .before .before .before .before .before .before .before .before .args .scratch .now) (c .before .before .before .before .lent .result) (c .before .before .before .before .lent .ensures) (c .before .before .before .if1 .left) in search (needs, n))
+    (λ c κs. let n = lengths (c .before .before .before .before .before .before .before .before .before .before .before .before .before .before .before .args .table .now) (c .before .before .before .before .before .before .before .before .before .before .before .before .before .before .before .args .scratch .now) (c .before .before .before .before .before .before .before .before .before .lent .result) (c .before .before .before .before .before .before .before .before .before .lent .ensures) (c .before .before .before .before .before .before .before .before .if1 .left) in search (needs, n))
     (λ c. search needs)
     (λ c. search needs)
     (λ c.
-    let lent = c .before .before .before .before .before .before .before .before .before .before .lent in (
-      pick-yes _ _ _ (rw (← lent .ensures, not-false (lent .result) (c .before .before .before .before .before .before .before .before .before .if1 .left), eq-eqb _ _ (c .before .before .before .before .before .before .before .before .if2 .left), eq-eqb _ _ (c .before .before .before .before .before .before .before .if3 .left))) (rw (c .before .before .before .before .spectrum-of .ensures)),
+    let n = lengths (c .before .before .before .before .before .before .before .before .before .before .before .before .before .before .before .before .before .before .before .before .args .table .now) (c .before .before .before .before .before .before .before .before .before .before .before .before .before .before .before .before .before .before .before .before .args .scratch .now) (c .before .before .before .before .before .before .before .before .before .before .before .before .before .before .lent .result) (c .before .before .before .before .before .before .before .before .before .before .before .before .before .before .lent .ensures) (c .before .before .before .before .before .before .before .before .before .before .before .before .before .if1 .left) in (
+      pick-yes _ _ _ (rw (← c .before .before .before .before .before .before .before .before .before .before .before .before .before .before .lent .ensures, not-false (c .before .before .before .before .before .before .before .before .before .before .before .before .before .before .lent .result) (c .before .before .before .before .before .before .before .before .before .before .before .before .before .if1 .left), eq-eqb _ _ (c .before .before .before .before .before .before .before .before .before .before .before .before .if2 .left), eq-eqb _ _ (c .before .before .before .before .before .before .before .before .before .before .before .if3 .left)))
+          (rw (c .before .before .before .before .transform-loaded .ensures, c .before .before .before .before .before .before .before .before .before .load-samples .ensures, loaded-bins _ _ _ (c .before .before .before .before .before .before .before .before .before .before .before .before .if2 .left) (n .scratch))),
       λ (h : 0 ≡ 2). absurd (omega (arith, h)),
     )))

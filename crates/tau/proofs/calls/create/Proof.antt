@@ -19,8 +19,15 @@ create-spec =
     (λ c κs. search needs)
     (λ c κs. search needs)
     (λ c κs. search needs)
-    (λ c κs. accepted-settings _ _ _ _ (sym (c .before .before .before .before .before .before .before .before .before .before .before .before .before .create-refusal .ensures) ∙ c .before .before .before .before .before .before .before .before .before .before .before .before .if1 .left) .some)
+    (λ c κs. let taken = c .before .before .before .before .before .before .before .before .before .before .before .before in
+    accepted-settings _ _ _ _ (sym (taken .before .create-refusal .ensures) ∙ taken .if1 .left) .some)
     (λ c. search needs)
     (λ c. search needs)
     (λ c. search needs)
-    (λ c. let z = accepted-settings _ _ _ _ (sym (c .before .before .before .before .before .before .before .before .before .before .before .before .before .before .create-refusal .ensures) ∙ c .before .before .before .before .before .before .before .before .before .before .before .before .before .if1 .left) in rw (← c .before .before .before .before .before .before .before .before .before .before .before .before .before .before .create-refusal .ensures) (pick-yes _ _ _ (eq-eqb _ _ (c .before .before .before .before .before .before .before .before .before .before .before .before .before .if1 .left)) (rw (c .fresh .ensures, c .before .before .before .clear3 .ensures, c .before .before .before .before .before .before .before .clear2 .ensures, c .before .before .before .before .before .before .before .before .before .before .before .clear .ensures, z .sizes .shadow, z .sizes .output, z .sizes .spectra)))))
+    (λ c. let taken = c .before .before .before .before .before .before .before .before .before .before .before .before .before in
+    let refusal = taken .before .create-refusal .ensures in
+    let z = accepted-settings _ _ _ _ (sym refusal ∙ taken .if1 .left) in
+    let last = c .before .before .before in
+    let middle = last .before .before .before .before in
+    rw (← refusal) (pick-yes _ _ _ (eq-eqb _ _ (taken .if1 .left))
+    (rw (c .fresh .ensures, last .clear3 .ensures, middle .clear2 .ensures, middle .before .before .before .before .clear .ensures, z .sizes .shadow, z .sizes .output, z .sizes .spectra)))))

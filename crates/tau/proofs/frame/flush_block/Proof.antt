@@ -1,9 +1,10 @@
-use Rattle.tau.specs.Pairs.{flushedOf}
+use mathlib.Core.Path.{_≡_, refl}
 use native.Mathlib.Omega.{arith}
-use borrow.Author.Tests.{eq-eqb, ne-eqb}
-use Rattle.laws.specs.Choice.{pick-yes, pick-no}
-use mathlib.Core.Path.{_≡_, refl, sym, _∙_}
-use Rattle.tau.proofs.Going.{block-long}
+use borrow.Author.Tests.{eq-eqb}
+use Rattle.laws.specs.Choice.{pick-yes}
+use Rattle.tau_block.proofs.Composed.{run-carried}
+use Rattle.tau.specs.Pairs.{flushedOf}
+use Rattle.tau.proofs.Going.{block-long, block-count}
 use Rattle.tau.proofs.Ended.{flush-is}
 use borrow.Author.Needs.{needs}
 use Rattle.tau.proofs.frame.flush_block.Statement.{statement}
@@ -14,14 +15,23 @@ unfolding flushedOf
 flush-block-spec =
     tie.close
     (tie.spec
-    (λ c. (pick-yes _ _ _ (eq-eqb _ _ (c .if1 .taken)) refl, (refl, omega arith)))
-    (λ c κs. c .before .before .before .before .before .before .before .pre .0 .waiting)
+    (λ c κs. search needs)
+    (λ c. rw (c .stay .ensures) (pick-yes _ _ _ (eq-eqb _ _ (c .before .if1 .taken)) refl, (refl, omega arith)))
+    (λ c κs. c .before .before .before .before .before .before .pre .0 .waiting)
     (λ c κs. c .before .before .before .before .before .before .before .before .pre .0 .waiting)
-    (λ c κs. let p = c .before .before .before .before .before .before .before .before .before .before .before .before .pre in (p .1 .0, (p .0 .inring, p .0 .most, omega (arith, p .0 .waiting))))
+    (λ c κs. let p = c .before .before .before .before .before .before .before .before .before .before .before .before .before .before .before .before .before .before .before .before .before .pre in (p .1 .0, (p .0 .inring, p .0 .most, omega (arith, p .0 .waiting))))
+    (λ c. block-count _ _ _ _ _ _ _ _ _ (c .before .before .before .before .before .before .before .run-lent .ensures))
+    (λ c κs. let ran = c .before .before .before .before .before .before .before .before in
+    let p = ran .before .before .before .before .before .before .before .before .before .before .before .before .before .before .before .before .before .before .before .before .before .before .pre in
+    (block-long _ _ _ _ _ _ _ _ _ (ran .run-lent .ensures) _ (omega (arith, p .0 .waiting)), omega (arith, p .1 .1)))
     (λ c. search needs)
-    (λ c κs. let p = c .before .before .before .before .before .before .before .before .before .before .before .before .before .before .before .before .before .before .before .before .before .before .pre in (block-long _ _ _ _ _ _ _ _ _ (c .before .before .before .before .before .before .before .before .before .run-block .ensures) _ (omega (arith, p .0 .waiting)), omega (arith, p .1 .1)))
     (λ c. search needs)
     (λ c. search needs)
     (λ c. search needs)
-    (λ c. search needs)
-    (λ c. let p = c .before .before .before .before .before .before .before .before .before .before .before .before .before .before .before .before .before .before .before .before .before .before .before .before .before .before .pre in let z = flush-is _ _ _ _ _ _ _ (c .before .before .before .before .before .before .before .before .before .before .before .before .before .before .before .before .before .before .pad .ensures) (c .before .before .before .before .before .before .before .before .before .before .before .before .before .before .before .before .before .pad2 .ensures) (c .before .before .before .before .before .before .before .before .before .before .before .before .before .before .before .before .before .before .before .before .before .if1 .left) (p .0 .waiting) (p .1 .1) _ (c .before .before .before .before .before .before .before .before .before .before .before .before .before .run-block .ensures) _ (c .before .before .before .put .ensures) in (z .run, (z .tail, z .room))))
+    (λ c. let ran = c .before .before .before .before .before .before .before .before .before .before .before .before .before in
+    let padded = ran .before .before .before .before .before .before .before .before .before .before .before .before .before in
+    let left = padded .before .before .before .before in
+    let p = left .before .before .before .before .before .pre in
+    let z = flush-is _ _ _ _ _ _ _ (padded .before .before .pad .ensures) (padded .pad2 .ensures) (left .if1 .left) (p .0 .waiting) (p .1 .1)
+    _ (run-carried _ _ 0 _ _ _ _ _ _ _ _ _ _ _ (ran .run-lent .ensures)) _ (c .before .before .before .before .put .ensures) in
+    (z .run, (z .tail, z .room))))

@@ -9,10 +9,10 @@ use Rattle.tau.proofs.frame.pad.Tie as tie
 use borrow.Author.Needs.{needs}
 
 abbrev Inv-loop : tie.InvT-loop
-Inv-loop n b₀ left j₀ b j = (j ≤ left) × (b ≡ overAt n j (λ k x. zero32) b₀)
+Inv-loop n samples₀ left j₀ samples j = (j ≤ left) × (samples ≡ overAt n j (λ k x. zero32) samples₀)
 
 abbrev μ-loop : tie.MeasureT-loop
-μ-loop n b₀ left j₀ b j = left - j
+μ-loop n samples₀ left j₀ samples j = left - j
 
 pub pad-spec : {M : Type 1} → statement M
 pad-spec =

@@ -10,17 +10,10 @@ unfolding updated
 adapt-shadow-spec =
     tie.close
     (tie.spec
-    (λ c. search needs)
-    (λ c κs. search needs)
-    (λ c. search needs)
-    (λ c. search needs)
-    (λ c κs. search needs)
-    (λ c κs. search needs)
-    (λ c. search needs)
     (λ c κs. search needs)
     (λ c κs. search needs)
     (λ c κs. search needs)
     (λ c κs. search needs)
     (λ c. search needs)
-    (λ c. pick-yes _ _ _ (c .before .before .before .before .before .before .before .before .before .before .before .before .before .before .before .before .before .before .before .before .before .before .before .before .before .before .before .before .before .before .before .if1 .taken) (rw (← c .before .before .before .before .before .before .before .before .before .before .before .before .before .before .before .before .before .before .before .before .before .before .before .before .before .before .before .before .slide .ensures, ← c .before .before .before .before .before .before .before .before .before .before .before .before .before .before .before .before .before .before .before .before .before .before .before .spectrum .ensures, ← c .before .before .before .before .before .before .before .before .before .before .before .before .before .before .before .before .before .before .before .before .far-power .ensures, ← c .before .before .before .before .before .before .before .before .before .before .before .before .before .before .before .before .rates .ensures, ← c .before .before .before .before .before .before .before .before .before .before .before .before .new-means .ensures, ← c .before .before .before .before .before .before .before .learn .ensures, c .before .before .judge .ensures)))
+    (λ c. pick-yes _ _ _ (c .before .before .before .before .before .before .before .before .before .before .before .before .before .before .before .before .before .before .if1 .taken) (rw (← c .before .before .before .before .before .before .before .before .before .before .before .before .before .before .before .error-spectrum .ensures, ← c .before .before .before .before .before .before .before .before .before .before .before .before .next-steps .ensures .0, ← c .before .before .before .before .before .before .before .before .before .before .before .before .next-steps .ensures .1, ← c .before .before .before .before .before .before .before .learn .ensures, c .before .before .judge .ensures)))
     (λ c. pick-no _ _ _ (c .if1 .left) refl))
