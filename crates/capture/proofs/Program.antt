@@ -15,12 +15,12 @@ use Rattle.numbers.specs.Zeros.{Fits}
 use Rattle.tau_steps.specs.Constants.{zero32, zero64}
 use Rattle.tau.specs.Pairs.{Engine, Run, pairsOf, flushedOf}
 use Rattle.tau.specs.Calls.{createRefusal, Called, servedOf, processOf, flushOf}
-use Rattle.tau.specs.Stream.{Good, joined}
+use Rattle.tau_streams.specs.Stream.{Good, joined}
 use Rattle.tau.proofs.Accepted.{State, create-answers, settings-accepted, process-accepted, flush-accepted, process-ran, flush-ran}
-use Rattle.tau.proofs.Counts.{created-good, pairs-sound}
-use Rattle.tau.specs.Silence.{Begins, created}
-use Rattle.tau.proofs.Cut.{cut}
-use Rattle.tau.proofs.Silence.{singer-stream}
+use Rattle.tau_streams.proofs.Counts.{created-good, pairs-sound}
+use Rattle.tau_streams.specs.Silence.{Begins, created}
+use Rattle.tau_streams.proofs.Cut.{cut}
+use Rattle.tau_streams.proofs.Silence.{singer-stream}
 use Rattle.wire.specs.Wire.{patternAt, sampleAt, pairsIn, nearIn, farIn, restIn, bytesOf}
 use Rattle.wire.proofs.Captures.{near-cut, far-cut, rest-cut, near-same, far-same, rest-short, length-near, length-far, length-bytes, bytes-join}
 use Rattle.capture.specs.Feeds.{Fed, roomOf, writtenBy, fedOf, finishedOf}

@@ -24,9 +24,10 @@ use Rattle.laws.specs.Loops.{over}
 use Rattle.tau_steps.specs.Constants.{zero32}
 use Rattle.tau.specs.Pairs.{Engine}
 use Rattle.tau.specs.Calls.{Called, processOf, flushOf}
-use Rattle.tau.specs.Stream.{processNumber, flushNumber, deliveredBy}
+use Rattle.tau_streams.specs.Stream.{deliveredBy}
+use Rattle.tau.specs.Calls.{processNumber, flushNumber}
 use Rattle.tau.proofs.Accepted.{accepted-pairs, accepted-flush}
-use Rattle.tau.proofs.Counts.{delivers, flushed-delivers}
+use Rattle.tau_streams.proofs.Counts.{delivers, flushed-delivers}
 use Rattle.wire.specs.Wire.{sampleAt, pairsIn, nearIn, farIn, writtenAt, bytesOf}
 use Rattle.wire.proofs.Captures.{near-front, far-front, written-front}
 use Rattle.capture.specs.Feeds.{Fed, roomOf, writtenBy, fedOf, finishedOf}

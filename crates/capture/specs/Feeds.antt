@@ -7,7 +7,7 @@ use Rattle.tau_steps.specs.Constants.{zero32}
 use Rattle.tau.specs.declared.calls.Answer.{Answer}
 use Rattle.tau.specs.Pairs.{Engine}
 use Rattle.tau.specs.Calls.{Called, processOf, flushOf}
-use Rattle.tau.specs.Stream.{deliveredBy}
+use Rattle.tau_streams.specs.Stream.{deliveredBy}
 use Rattle.wire.specs.Wire.{nearIn, farIn, bytesOf}
 
 pub record Fed : Type 0 where

@@ -13,7 +13,7 @@ use Rattle.numbers.specs.Zeros.{Still}
 use Rattle.tau_steps.specs.Constants.{zero64}
 use Rattle.tau.specs.Pairs.{Engine, pairsOf, flushedOf}
 use Rattle.tau.specs.Calls.{createOf}
-use Rattle.tau.specs.Stream.{begunBy}
+use Rattle.tau_streams.specs.Stream.{begunBy}
 use Rattle.wire.specs.Wire.{nearIn, farIn, restIn, bytesOf}
 use Rattle.capture.specs.Feeds.{Fed, fedOf, finishedOf}
 

@@ -9,7 +9,7 @@ use lib.ListN.{length}
 use Rattle.laws.specs.Choice.{pick, pick-yes, pick-no, pick-if}
 use Rattle.fft.specs.Calls.{Wrote, forwardOf, inverseOf}
 use Rattle.rho.specs.Calls as rho
-use Rattle.rho.proofs.Counts as rhoCounts
+use Rattle.rho_streams.proofs.Counts as rhoCounts
 use Rattle.tau_steps.specs.Ranges.{rangedOf}
 use Rattle.tau.specs.Fresh.{emptyOf}
 use Rattle.tau.specs.Calls as tau

@@ -1,7 +1,7 @@
 -- Demand 2, from what each crate proves of its calls. Assumes nothing.
 use mathlib.Core.Path.{_≡_, sym, _∙_}
 use Rattle.fft.proofs.Served.{forward-served, inverse-served}
-use Rattle.rho.proofs.Counts as rhoCounts
+use Rattle.rho_streams.proofs.Counts as rhoCounts
 use Rattle.tau_block.specs.Resets.{clearsOf, howMany}
 use Rattle.tau_block.proofs.Ran.{ran-transfers}
 use Rattle.tau_block.proofs.Resets.{ran-resets, more-held, shadow-clears, output-clears, update-clears, guard-clears}

@@ -1,13 +1,13 @@
 -- Demand 3, from the theorems on streams of the two engines. Assumes nothing.
 use mathlib.Core.Path.{_≡_, sym, _∙_}
-use Rattle.rho.proofs.Cut as rhoCut
-use Rattle.rho.proofs.Silence as rhoSilence
-use Rattle.rho.proofs.Freeze as rhoFreeze
-use Rattle.tau.specs.Stream.{Since, Uncut}
+use Rattle.rho_streams.proofs.Cut as rhoCut
+use Rattle.rho_streams.proofs.Silence as rhoSilence
+use Rattle.rho_streams.proofs.Freeze as rhoFreeze
+use Rattle.tau_streams.specs.Stream.{Since, Uncut}
 use Rattle.tau.proofs.Accepted.{create-answers, reset-answers, flush-answers}
-use Rattle.tau.proofs.Cut.{rows-agree, cut-call}
-use Rattle.tau.proofs.Since.{created-calls, reset-calls, since-delivers, since-waits, since-flush, since-blocks, since-rest}
-use Rattle.tau.proofs.Silence.{singer-first, singer}
+use Rattle.tau_streams.proofs.Cut.{rows-agree, cut-call}
+use Rattle.tau_streams.proofs.Since.{created-calls, reset-calls, since-delivers, since-waits, since-flush, since-blocks, since-rest}
+use Rattle.tau_streams.proofs.Silence.{singer-first, singer}
 use Rattle.promises.specs.Demand3.{Kept, TauCalls, TauCuts, TauParts, TauSilence, TauSinger, RhoCounts, RhoCuts, RhoSilence, RhoFreeze}
 
 -- ---- TauCanceller

@@ -4,7 +4,7 @@ use Rattle.complex_fft.proofs.Marked.{m7}
 use Rattle.trig.proofs.Marked.{m8, m9}
 use Rattle.rho.proofs.Marked.{m10}
 use Rattle.tau_steps.proofs.Marked.{m11}
-use Rattle.tau.proofs.Marked.{m12}
+use Rattle.tau_streams.proofs.Marked.{m12}
 use Rattle.promises.specs.Marked.{Marked}
 
 pub marked : Marked

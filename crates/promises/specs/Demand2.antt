@@ -11,7 +11,7 @@ use lib.ListN.{length}
 use Rattle.fft.specs.Calls.{forwardOf, inverseOf, spectrumOf, samplesOf}
 use Rattle.rho.specs.Sample as sample
 use Rattle.rho.specs.Calls as rho
-use Rattle.rho.proofs.Counts as rhoCounts
+use Rattle.rho_streams.proofs.Counts as rhoCounts
 use Rattle.tau_steps.specs.Paths.{counted}
 use Rattle.tau_steps.specs.declared.state.TauCanceller.{TauCanceller}
 use Rattle.tau_block.specs.Block.{runBlock}

@@ -14,12 +14,12 @@ use Rattle.numbers.specs.Zeros.{Fits, Still}
 use Rattle.rho.specs.Sample as sample
 use Rattle.rho.specs.Pairs as rhoPairs
 use Rattle.rho.specs.Calls as rho
-use Rattle.rho.specs.Stream as rhoStream
+use Rattle.rho_streams.specs.Stream as rhoStream
 use Rattle.tau.specs.Pairs.{Engine, blockOf, pairsOf, flushedOf}
 use Rattle.tau.specs.Calls as tau
-use Rattle.tau.specs.Stream.{Part, Level, Roomy, nearOf, farOf, rowOf, AllAccepted, ranBy, begunBy, Call, Since, anew, afterCalls, byBlocks, restOf}
-use Rattle.tau.specs.Stream.Call.{feed, flush}
-use Rattle.tau.specs.Silence.{Begins, callsOf, AllTaken, givenOf, Gentle, filledBy}
+use Rattle.tau_streams.specs.Stream.{Part, Level, Roomy, nearOf, farOf, rowOf, AllAccepted, ranBy, begunBy, Call, Since, anew, afterCalls, byBlocks, restOf}
+use Rattle.tau_streams.specs.Stream.Call.{feed, flush}
+use Rattle.tau_streams.specs.Silence.{Begins, callsOf, AllTaken, givenOf, Gentle, filledBy}
 
 -- ---- TauCanceller
 

@@ -4,7 +4,7 @@ use Rattle.complex_fft.specs.Marked.{M7}
 use Rattle.trig.specs.Marked.{M8, M9}
 use Rattle.rho.specs.Marked.{M10}
 use Rattle.tau_steps.specs.Marked.{M11}
-use Rattle.tau.specs.Marked.{M12}
+use Rattle.tau_streams.specs.Marked.{M12}
 
 abbrev pub Marked : Type 0
 Marked = M1 × M2 × M3 × M4 × M5 × M6 × M7 × M8 × M9 × M10 × M11 × M12

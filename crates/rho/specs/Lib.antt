@@ -4,5 +4,4 @@ pub mod Sample
 pub mod Pairs
 pub mod Calls
 pub mod Peak
-pub mod Stream
 pub mod Marked

@@ -22,7 +22,7 @@ use Rattle.tau_steps.specs.declared.state.TauCanceller.{TauCanceller}
 use Rattle.tau.specs.Fresh.{emptyOf}
 use Rattle.tau.specs.Pairs.{Engine, pairsOf, flushedOf}
 use Rattle.tau.specs.Calls.{settingsOf, sizedOf, createRefusal, stateRefusal, deliversOf, pairsRefusal, processRefusal, flushRefusal, Begun, Called, begunOf, createOf, resetOf, refusedOf, servedOf, processOf, flushOf}
-use Rattle.tau.specs.Stream.{stateNumber, processNumber, flushNumber}
+use Rattle.tau.specs.Calls.{stateNumber, processNumber, flushNumber}
 
 -- ---- the state and the lent buffers
 

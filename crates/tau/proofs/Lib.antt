@@ -3,10 +3,3 @@ pub mod Accepted
 pub mod Going
 pub mod Waits
 pub mod Ended
-pub mod Counts
-pub mod Cut
-pub mod Outcomes
-pub mod Blocks
-pub mod Since
-pub mod Marked
-pub mod Silence

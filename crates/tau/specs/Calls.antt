@@ -125,3 +125,14 @@ unfoldable pub flushOf : Engine → List Float → Called
 flushOf e out =
     let refusal = flushRefusal (e .state) (length (e .shadow)) (length (e .output)) (length (e .spectra)) (length out) in
     pick (eqb refusal 0) (servedOf (flushedOf e) out) (refusedOf refusal e out)
+
+-- the number of a reset's refusal, of a process's and of a flush's
+abbrev pub stateNumber : Engine → ℕ
+stateNumber e = stateRefusal (e .state) (length (e .shadow)) (length (e .output)) (length (e .spectra))
+
+abbrev pub processNumber : Engine → List Float → List Float → List Float → ℕ
+processNumber e near far out =
+    processRefusal (e .state) (length (e .shadow)) (length (e .output)) (length (e .spectra)) (length near) (length far) (length out)
+
+abbrev pub flushNumber : Engine → List Float → ℕ
+flushNumber e out = flushRefusal (e .state) (length (e .shadow)) (length (e .output)) (length (e .spectra)) (length out)

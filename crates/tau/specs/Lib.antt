@@ -2,6 +2,3 @@ pub mod Fresh
 pub mod Pairs
 pub mod Lent
 pub mod Calls
-pub mod Stream
-pub mod Marked
-pub mod Silence

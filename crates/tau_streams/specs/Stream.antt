@@ -12,8 +12,8 @@ use Rattle.laws.specs.Kinds.{All}
 use Rattle.numbers.specs.Finite.{finiteOrZero}
 use Rattle.tau_steps.specs.Constants.{zero32}
 use Rattle.tau_steps.specs.Ranges.{Ranged}
 use Rattle.tau.specs.Pairs.{Engine, Run, waitsOf, carrying, blockOf, lastOf, pairsOf}
-use Rattle.tau.specs.Calls.{deliversOf, stateRefusal, processRefusal, flushRefusal, Begun, Called, resetOf, processOf, flushOf}
+use Rattle.tau.specs.Calls.{deliversOf, Begun, Called, resetOf, processOf, flushOf}
 
 -- ---- engines
 
@@ -46,17 +46,6 @@ deliveredBy c = take (c .answer .delivered) (c .out)
 -- both, with the outcome of its report, as a run
 abbrev pub ranBy : Called → Run
 ranBy c = record { engine = leftBy c; samples = deliveredBy c; last = c .answer .report .outcome }
-
--- the number of a reset's refusal, of a process's and of a flush's
-abbrev pub stateNumber : Engine → ℕ
-stateNumber e = stateRefusal (e .state) (length (e .shadow)) (length (e .output)) (length (e .spectra))
-
-abbrev pub processNumber : Engine → List Float → List Float → List Float → ℕ
-processNumber e near far out =
-    processRefusal (e .state) (length (e .shadow)) (length (e .output)) (length (e .spectra)) (length near) (length far) (length out)
-
-abbrev pub flushNumber : Engine → List Float → ℕ
-flushNumber e out = flushRefusal (e .state) (length (e .shadow)) (length (e .output)) (length (e .spectra)) (length out)
 
 -- ---- a stream cut into parts
 

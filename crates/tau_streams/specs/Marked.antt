@@ -5,9 +5,9 @@ use mathlib.Core.List.{List}
 use Prim.Native.Nat.{ℕ}
 use lib.Ieee.{Float}
 use lib.ListN.{length}
 use Rattle.tau.specs.Pairs.{Engine, pairsOf, flushedOf}
 use Rattle.tau.specs.Calls.{createOf, flushOf}
-use Rattle.tau.specs.Stream.{begunBy, Part, nearOf, rowOf, AllAccepted}
+use Rattle.tau_streams.specs.Stream.{begunBy, Part, nearOf, rowOf, AllAccepted}
 
 -- an engine as an accepted creation leaves it, with any settings and whatever the buffers held
 pub record Created (e : Engine) : Type 0 where

@@ -15,12 +15,12 @@ use lib.Ieee.{Float}
 use lib.ListN.{length, take, drop, length-append, length-drop}
 use lib.Seq.{take-at, drop-at}
 use Rattle.laws.specs.Choice.{pick-yes, pick-no, pick-if}
 use Rattle.rho.specs.State.{tapsOf, hangoverOf}
 use Rattle.rho.specs.Sample.{Engine}
 use Rattle.rho.specs.Pairs.{pairsOf}
 use Rattle.rho.specs.Calls.{createRefusal, Begun, Called, begunOf, createOf, resetOf, answerOf, untouchedOf, processOf, flushOf}
-use Rattle.rho.specs.Stream.{leftBy, deliveredBy, stateNumber, processNumber, takenBy}
+use Rattle.rho_streams.specs.Stream.{leftBy, deliveredBy, stateNumber, processNumber, takenBy}
 use Rattle.rho.proofs.Accepted.{accepted-pairs}
 
 -- A stream of N pairs gives N samples.
 pub delivers : (e : Engine) (near far : List Float) → length near ≡ length far → length (pairsOf e near far .samples) ≡ length near

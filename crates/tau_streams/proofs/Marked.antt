@@ -1,12 +1,12 @@
 -- M12, from the counts of a stream and of a flush. Assumes nothing.
 use mathlib.Core.Path.{_≡_, sym, _∙_}
 use native.Mathlib.Omega.{arith}
 use Rattle.tau.specs.Pairs.{Engine, pairsOf}
-use Rattle.tau.specs.Stream.{Good, rowOf}
-use Rattle.tau.specs.Marked.{Created, M12, M12Calls}
+use Rattle.tau_streams.specs.Stream.{Good, rowOf}
+use Rattle.tau_streams.specs.Marked.{Created, M12, M12Calls}
 use Rattle.tau.proofs.Accepted.{create-answers, flush-answers}
-use Rattle.tau.proofs.Counts.{pairs-sound, created-good, created-empty, delivers, carries, flushed-delivers, flush-delivers}
-use Rattle.tau.proofs.Cut.{row-delivers, row-carries}
+use Rattle.tau_streams.proofs.Counts.{pairs-sound, created-good, created-empty, delivers, carries, flushed-delivers, flush-delivers}
+use Rattle.tau_streams.proofs.Cut.{row-delivers, row-carries}
 
 created-is : (e : Engine) → Created e → Good e × (e .state .carried ≡ 0)
 created-is e c =

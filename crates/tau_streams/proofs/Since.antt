@@ -18,13 +18,14 @@ use lib.Ieee.{Float}
 use lib.ListN.{length, drop, length-append, length-drop}
 use Rattle.laws.specs.Choice.{pick-if}
 use Rattle.tau_steps.specs.Report.{reportOf}
 use Rattle.tau.specs.Pairs.{Engine, Run, waitsOf, blockOf, pairsOf, flushedOf}
 use Rattle.tau.specs.Calls.{createRefusal, createOf, resetOf, refusedOf, processOf, flushOf}
-use Rattle.tau.specs.Stream.{Good, begunBy, leftBy, ranBy, stateNumber, processNumber, flushNumber, Part, joined, blocksOf, waiting, byBlocks, restOf, Call, feed, flush, reset, Since, anew, onward, afterCall, afterCalls, Uncut}
+use Rattle.tau_streams.specs.Stream.{Good, begunBy, leftBy, ranBy, Part, joined, blocksOf, waiting, byBlocks, restOf, Call, feed, flush, reset, Since, anew, onward, afterCall, afterCalls, Uncut}
+use Rattle.tau.specs.Calls.{stateNumber, processNumber, flushNumber}
 use Rattle.tau.proofs.Accepted.{accepted-pairs, process-answers, process-refused, flush-answers, flush-ran, flush-refused, reset-answers, reset-refused}
-use Rattle.tau.proofs.Counts.{pairs-sound, flushed-sound, created-good, created-empty, reset-good, reset-empty, delivers, carries, flushed-empties, Delivery, flush-delivers}
-use Rattle.tau.proofs.Cut.{joined-last, cut, call-ran}
-use Rattle.tau.proofs.Blocks.{stream-blocks, rest-flushed}
+use Rattle.tau_streams.proofs.Counts.{pairs-sound, flushed-sound, created-good, created-empty, reset-good, reset-empty, delivers, carries, flushed-empties, Delivery, flush-delivers}
+use Rattle.tau_streams.proofs.Cut.{joined-last, cut, call-ran}
+use Rattle.tau_streams.proofs.Blocks.{stream-blocks, rest-flushed}
 
 -- ---- the start
 

@@ -22,15 +22,15 @@ use Rattle.laws.specs.Choice.{pick-yes, pick-if, both}
 use Rattle.laws.specs.Loops.{length-over}
 use Rattle.laws.specs.Kinds.{All, all-none, all-cons}
 use Rattle.numbers.specs.Finite.{plus}
 use Rattle.rho.specs.declared.state.RhoCanceller.{RhoCanceller}
 use Rattle.rho.specs.State.{tapsOf, hangoverOf}
 use Rattle.rho.specs.Sample.{Engine, Adapted, freezeOf, updatedOf, clearedOf, adaptedOf, afterOf, stepOf}
 use Rattle.rho.specs.Pairs.{Run, pairsOf}
 use Rattle.rho.specs.Calls.{settingsOf, sizedOf, rangedOf, createRefusal, stateRefusal, pairsRefusal, processRefusal, Called, begunOf, createOf, resetOf, processOf}
-use Rattle.rho.specs.Stream.{begunBy, leftBy, deliveredBy, processNumber, Part, Level, Room, nearOf, farOf, thenOf, partsOf, rowOf, AllAccepted, takenBy}
+use Rattle.rho_streams.specs.Stream.{begunBy, leftBy, deliveredBy, processNumber, Part, Level, Room, nearOf, farOf, thenOf, partsOf, rowOf, AllAccepted, takenBy}
 use Rattle.rho.proofs.Going.{next-small}
 use Rattle.rho.proofs.Accepted.{Ranged, State, accepted-state, Pairs, accepted-pairs, taps-some}
-use Rattle.rho.proofs.Counts.{delivers, create-answers, create-began, reset-answers, reset-began, process-answers, process-ran, process-delivers}
+use Rattle.rho_streams.proofs.Counts.{delivers, create-answers, create-began, reset-answers, reset-began, process-answers, process-ran, process-delivers}
 
 -- ---- over the pairs
 

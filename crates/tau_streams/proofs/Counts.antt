@@ -24,11 +24,12 @@ use Rattle.tau_steps.specs.Ranges.{Ranged}
 use Rattle.tau_steps.specs.declared.state.TauCanceller.{TauCanceller}
 use Rattle.tau_block.specs.Block.{runBlock}
 use Rattle.tau_block.proofs.Kept.{ranges-kept, lengths-kept, length-block}
 use Rattle.tau.specs.Fresh.{freshMic, freshOf}
 use Rattle.tau.specs.Pairs.{Engine, Run, waitsOf, carrying, blockOf, fillOf, pairOf, pairsOf, flushedOf}
 use Rattle.tau.specs.Calls.{createRefusal, deliversOf, Called, begunOf, createOf, resetOf, refusedOf, servedOf, processOf, flushOf}
-use Rattle.tau.specs.Stream.{Sound, Good, begunBy, stateNumber, processNumber, flushNumber}
+use Rattle.tau_streams.specs.Stream.{Sound, Good, begunBy}
+use Rattle.tau.specs.Calls.{stateNumber, processNumber, flushNumber}
 use Rattle.tau.proofs.Accepted.{accepted-state, state-accepted, accepted-pairs, accepted-flush, accepted-settings, create-began, reset-began, process-ran, flush-ran}
 
 -- ---- a block
 

@@ -17,12 +17,13 @@ use Rattle.tau_steps.specs.Ranges.{Ranged}
 use Rattle.tau_steps.specs.declared.report.Outcome.{Outcome}
 use Rattle.tau_steps.specs.declared.report.Outcome.the-variants.{NotRun, NoMove, Rescue, Move}
 use Rattle.tau_block.proofs.Ran.{ran-outcome}
 use Rattle.tau.specs.Pairs.{Engine, Run, blockOf, fillOf, pairOf, lastOf, pairsOf, flushedOf}
 use Rattle.tau.specs.Calls.{processOf, flushOf}
-use Rattle.tau.specs.Stream.{ranBy, processNumber, flushNumber, joined}
+use Rattle.tau_streams.specs.Stream.{ranBy, joined}
+use Rattle.tau.specs.Calls.{processNumber, flushNumber}
 use Rattle.tau.proofs.Accepted.{accepted-pairs, flush-ran}
-use Rattle.tau.proofs.Counts.{block-delivers, delivers, flushed-waits}
-use Rattle.tau.proofs.Cut.{served-ran, call-ran}
+use Rattle.tau_streams.proofs.Counts.{block-delivers, delivers, flushed-waits}
+use Rattle.tau_streams.proofs.Cut.{served-ran, call-ran}
 
 -- an outcome of a block
 record Told (o : Outcome) : Type 0 where

@@ -1,0 +1,4 @@
+pub mod Counts
+pub mod Cut
+pub mod Silence
+pub mod Freeze
