@@ -14,7 +14,7 @@ use lib.ListN.{length, getD, set, take, drop, take-append-drop}
 use lib.Seq.{drop-cons, drop-length, take-suc-set, drop-set-lt, drop-drop, append-snoc}
 use Rattle.laws.specs.Choice.{pick-if}
 use Rattle.numbers.specs.Finite.{finiteOrZero}
-use Rattle.rho.specs.Ring.{nextOf}
+use Rattle.rho_taps.specs.Ring.{nextOf}
 use Rattle.rho.specs.Sample.{Engine, afterOf, stepOf}
 use Rattle.rho.specs.Pairs.{pairsOf}
 

@@ -8,8 +8,9 @@ use lib.ListN.{set}
 use Rattle.numbers.specs.Finite.{isFinite, finiteOrZero}
 use Rattle.numbers.specs.Narrowing.{narrowOf}
 use Rattle.rho.specs.declared.state.RhoCanceller.{RhoCanceller}
-use Rattle.rho.specs.Ring.{nextOf, estimateOf, energyOf, peakOf}
-use Rattle.rho.specs.Sample.{Engine, Adapted, Stepped, loudOf, freezeOf, scaleOf, adaptedOf, afterOf, stepOf}
+use Rattle.rho_taps.specs.Ring.{nextOf, estimateOf, energyOf, peakOf}
+use Rattle.rho.specs.Sample.{Engine, Stepped, loudOf, freezeOf, afterOf, stepOf}
+use Rattle.rho_taps.specs.Update.{Adapted, scaleOf, adaptedOf}
 
 pub step-is : (e : Engine) (near far : Float) (pos n : ℕ) (error energy output peak delivered : Float) (fine loud : Bool) (freeze resets : ℕ) (weights : List Float) (after : RhoCanceller)
     → pos ≡ nextOf (e .state .pos) (e .state .taps)

@@ -1,17 +1,16 @@
 -- The Rho sample, as `step` in rho.rs, one definition a step and in its order. Definitions only.
-use Prim.Native.Nat.{ℕ, _+_, _-_, _^_}
-use mathlib.Core.Bool.{Bool, true, _&&_}
+use Prim.Native.Nat.{ℕ, _-_}
+use mathlib.Core.Bool.{Bool}
 use mathlib.Core.List.{List}
-use lib.Dec.{eqb, ltb}
-use lib.Ieee.{Float, nan, binary32, binary64, add, sub, mul, div, lt, ofBits}
-use lib.ListN.{getD, set, replicate}
+use lib.Ieee.{Float, binary32, binary64, add, sub, mul, lt, ofBits}
+use lib.ListN.{set}
 use Rattle.laws.specs.Choice.{pick}
-use Rattle.laws.specs.Loops.{iter, over}
-use Rattle.numbers.specs.Finite.{plus, isFinite, finiteOrZero}
+use Rattle.numbers.specs.Finite.{isFinite, finiteOrZero}
 use Rattle.numbers.specs.Narrowing.{narrowOf}
 use Rattle.numbers.specs.Order.{absOf}
 use Rattle.rho.specs.declared.state.RhoCanceller.{RhoCanceller}
-use Rattle.rho.specs.Ring.{nextOf, lagOf, estimateOf, energyOf, peakOf}
+use Rattle.rho_taps.specs.Ring.{nextOf, estimateOf, energyOf, peakOf}
+use Rattle.rho_taps.specs.Update.{scaleOf, adaptedOf}
 
 -- the engine whole: its state and the two lent buffers
 pub record Engine : Type 0 where
@@ -26,46 +25,6 @@ loudOf near peak = lt (mul binary32 (ofBits binary32 0x3f00_0000) peak) (absOf n
 -- "Loud sets the freeze to H; a quiet pair takes 1 off, if any is left."
 unfoldable pub freezeOf : ℕ → ℕ → Bool → ℕ
 freezeOf hangover remaining loud = pick loud hangover (remaining - 1)
-
--- (0.5 * error) / (1e-3 + energy)
-unfoldable pub scaleOf : Float → Float → Float
-scaleOf error energy =
-    div binary64 (mul binary64 (ofBits binary64 0x3fe0_0000_0000_0000) error) (add binary64 (ofBits binary64 0x3f50_624d_d2f1_a9fc) energy)
-
--- a weight at its next value: w + (scale * x) as f32, an f32 addition
-unfoldable pub nudgeOf : Float → Float → Float → Float
-nudgeOf scale x weight = add binary32 weight (narrowOf (mul binary64 scale x))
-
--- every weight updated, by the history's sample of its lag
-unfoldable pub updatedOf : Float → List Float → ℕ → ℕ → List Float → List Float
-updatedOf scale history pos n weights = over n (λ k w. nudgeOf scale (lagOf history pos n k) w) weights
-
--- whether all n are finite
-unfoldable pub soundOf : ℕ → List Float → Bool
-soundOf n weights = iter (λ k sound. sound && isFinite (getD weights k nan)) true n
-
--- one more, and no more than 64 bits hold
-unfoldable pub oneMore : ℕ → ℕ
-oneMore n = pick (ltb n (2 ^ 64 - 1)) (n + 1) n
-
-pub record Adapted : Type 0 where
-  pub weights : List Float
-  pub resets : ℕ
-
--- all weights cleared, and counted
-unfoldable pub clearedOf : ℕ → ℕ → Adapted
-clearedOf n resets = record { weights = replicate n plus; resets = oneMore resets }
-
--- The update: after a divergence the filter is cleared; while frozen it stays; else it takes a step, and "all weights [are]
--- cleared where one is not finite".
-unfoldable pub adaptedOf : Bool → ℕ → Float → List Float → ℕ → ℕ → List Float → ℕ → Adapted
-adaptedOf fine freeze scale history pos n weights resets =
-    let next = updatedOf scale history pos n weights in
-    pick fine
-    (pick (eqb freeze 0)
-    (pick (soundOf n next) (record { weights = next; resets = resets }) (clearedOf n resets))
-    (record { weights = weights; resets = resets }))
-    (clearedOf n resets)
 
 -- a smoothed power: 0.999 * power + (1 - 0.999) * (x * x)
 unfoldable pub smoothOf : Float → Float → Float

@@ -9,7 +9,7 @@ use crate::state::empty;
 use crate::state::fresh;
 use crate::state::hangover_of;
 use crate::state::report_of;
-use crate::update::clear;
+use rho_taps::update::clear;
 ghost use mathlib.Core.Path.{_≡_};
 ghost use mathlib.Core.List.{_++_, []};
 ghost use Prim.Native.Nat.{_<_, _≤_};

@@ -1,14 +1,14 @@
 // One pair, as `step` in rho.rs.
-use crate::peak::peak_at;
-use crate::ring::next_position;
-use crate::ring::sums_of;
 use crate::state::RhoCanceller;
-use crate::update::adapt;
+use rho_taps::peak::peak_at;
+use rho_taps::ring::next_position;
+use rho_taps::ring::sums_of;
+use rho_taps::update::adapt;
 ghost use mathlib.Core.Path.{_≡_};
 ghost use Prim.Native.Nat.{_<_};
 ghost use lib.ListN.{length};
 ghost use lib.Ieee.{binary64, sub};
-ghost use Rattle.rho.specs.Ring.{estimateOf, energyOf, peakOf};
+ghost use Rattle.rho_taps.specs.Ring.{estimateOf, energyOf, peakOf};
 ghost use Rattle.rho.specs.Sample.{loudOf, freezeOf, smoothOf, afterOf, stepOf};
 
 const GEIGEL_THRESHOLD: f32 = 0.5;

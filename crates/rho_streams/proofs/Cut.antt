@@ -24,7 +24,8 @@ use Rattle.laws.specs.Kinds.{All, all-none, all-cons}
 use Rattle.numbers.specs.Finite.{plus}
 use Rattle.rho.specs.declared.state.RhoCanceller.{RhoCanceller}
 use Rattle.rho.specs.State.{tapsOf, hangoverOf}
-use Rattle.rho.specs.Sample.{Engine, Adapted, freezeOf, updatedOf, clearedOf, adaptedOf, afterOf, stepOf}
+use Rattle.rho.specs.Sample.{Engine, freezeOf, afterOf, stepOf}
+use Rattle.rho_taps.specs.Update.{Adapted, updatedOf, clearedOf, adaptedOf}
 use Rattle.rho.specs.Pairs.{Run, pairsOf}
 use Rattle.rho.specs.Calls.{settingsOf, sizedOf, rangedOf, createRefusal, stateRefusal, pairsRefusal, processRefusal, Called, begunOf, createOf, resetOf, processOf}
 use Rattle.rho_streams.specs.Stream.{begunBy, leftBy, deliveredBy, processNumber, Part, Level, Room, nearOf, farOf, thenOf, partsOf, rowOf, AllAccepted, takenBy}

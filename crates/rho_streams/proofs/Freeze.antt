@@ -16,7 +16,8 @@ use lib.Dec.{eqb, ltb}
 use lib.Ieee.{Float}
 use lib.ListN.{length}
 use Rattle.laws.specs.Choice.{pick, pick-yes, pick-no}
-use Rattle.rho.specs.Sample.{Engine, freezeOf, clearedOf, adaptedOf, afterOf, stepOf}
+use Rattle.rho.specs.Sample.{Engine, freezeOf, afterOf, stepOf}
+use Rattle.rho_taps.specs.Update.{clearedOf, adaptedOf}
 use Rattle.rho.specs.Pairs.{pairsOf}
 use Rattle.rho.specs.Calls.{Called, processOf}
 use Rattle.rho_streams.specs.Stream.{takenBy, hangover, remaining, loudAt, errorAt, fineAt, updateAt, keptBy, updatedBy, loudsOf, AllQuiet}

@@ -30,8 +30,9 @@ use Rattle.numbers.proofs.Clean.{clean-finite, clean-same, clean-fits}
 use Rattle.numbers.proofs.Values.{sub-zero}
 use Rattle.numbers.proofs.Narrowed.{narrow-exact}
 use Rattle.rho.specs.State.{tapsOf, hangoverOf}
-use Rattle.rho.specs.Ring.{slotOf, lagOf, estimateOf}
-use Rattle.rho.specs.Sample.{Engine, Adapted, nudgeOf, updatedOf, soundOf, clearedOf, adaptedOf, afterOf, stepOf}
+use Rattle.rho_taps.specs.Ring.{slotOf, lagOf, estimateOf}
+use Rattle.rho.specs.Sample.{Engine, afterOf, stepOf}
+use Rattle.rho_taps.specs.Update.{Adapted, nudgeOf, updatedOf, soundOf, clearedOf, adaptedOf}
 use Rattle.rho.specs.Pairs.{pairsOf}
 use Rattle.rho.specs.Calls.{begunOf, createOf, resetOf}
 use Rattle.rho_streams.specs.Stream.{begunBy, Part, nearOf, farOf, rowOf, AllAccepted, Quiet, takenBy, placeOf, heardOf, errorAt}

@@ -11,8 +11,9 @@ use Rattle.laws.specs.Kinds.{All, Kept}
 use Rattle.numbers.specs.Finite.{isFinite, finiteOrZero}
 use Rattle.numbers.specs.Narrowing.{narrowOf}
 use Rattle.numbers.specs.Zeros.{Zero, Plus}
-use Rattle.rho.specs.Ring.{nextOf, estimateOf, energyOf, peakOf}
-use Rattle.rho.specs.Sample.{Engine, Adapted, Stepped, loudOf, scaleOf, updatedOf, soundOf, clearedOf, stepOf}
+use Rattle.rho_taps.specs.Ring.{nextOf, estimateOf, energyOf, peakOf}
+use Rattle.rho.specs.Sample.{Engine, Stepped, loudOf, stepOf}
+use Rattle.rho_taps.specs.Update.{Adapted, scaleOf, updatedOf, soundOf, clearedOf}
 use Rattle.rho.specs.Pairs.{Run, pairsOf}
 use Rattle.rho.specs.Calls.{stateRefusal, processRefusal, Begun, Called, processOf}
 

@@ -3,7 +3,7 @@ use borrow.Author.Needs.{needs}
 use borrow.Author.Tests.{lt-ltb, le-ltb}
 use Rattle.laws.specs.Choice.{pick-yes, pick-no}
 use Rattle.rho.specs.State.{tapsOf}
-use Rattle.rho.proofs.Products.{below}
+use Rattle.rho_taps.proofs.Products.{below}
 use Rattle.rho.proofs.state.taps_of.Statement.{statement}
 use Rattle.rho.proofs.state.taps_of.Tie as tie
 

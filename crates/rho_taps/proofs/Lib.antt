@@ -1,0 +1,7 @@
+pub mod Products
+pub mod Runs
+pub mod Groups
+pub mod Sums
+pub mod Cleared
+pub mod Greatest
+pub mod Lanes
