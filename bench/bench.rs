@@ -383,9 +383,9 @@ impl RustTau {
     }
 }
 
-/// The port's state, the buffers that it is lent, and where it delivers.
+/// The port's last answer, with the state in it, the buffers that it is lent, and where it delivers.
 struct PortTau {
-    state: tau::TauCanceller,
+    answer: tau::Answer,
     buffers: [Vec<f64>; 3],
     out: [f32; BLOCK],
 }
@@ -395,7 +395,7 @@ impl PortTau {
         let mut buffers = [0; 3].map(|_| vec![0.0; SPECTRUM * partitions]);
         let lent = buffers.each_mut().map(|b| &mut b[..]);
         PortTau {
-            state: tau::create(partitions, suppress, lent).state,
+            answer: tau::create(partitions, suppress, lent).into(),
             buffers,
             out: [0.0; BLOCK],
         }
@@ -404,9 +404,8 @@ impl PortTau {
     /// A refused call would be a fast one.
     fn process(&mut self, near: &[f32], far: &[f32]) {
         let lent = self.buffers.each_mut().map(|b| &mut b[..]);
-        let answer = tau::process(self.state, lent, near, far, &mut self.out);
-        assert_eq!(answer.refusal, 0);
-        self.state = answer.state;
+        tau::process_on(&mut self.answer, lent, near, far, &mut self.out);
+        assert_eq!(self.answer.refusal, 0);
         black_box(&self.out);
     }
 }

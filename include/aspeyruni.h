@@ -119,7 +119,8 @@ struct aspeyruni_tau_answer {
 void aspeyruni_tau_create(struct aspeyruni_tau_started *answer, size_t partitions, bool suppress, double *shadow, size_t shadow_len,
                           double *output, size_t output_len, double *spectra, size_t spectra_len);
 
-/* Delivers 256 samples for each block that the pairs fill, to the first places of `out`. */
+/* Delivers 256 samples for each block that the pairs fill, to the first places of `out`. `answer` may be the one that the state is
+ * from, as in aspeyruni_tau_process(&answer, answer.state, ..): the state is then copied into the call and nowhere else. */
 void aspeyruni_tau_process(struct aspeyruni_tau_answer *answer, struct aspeyruni_tau state, double *shadow, size_t shadow_len,
                            double *output, size_t output_len, double *spectra, size_t spectra_len, const float *near, size_t near_len,
                            const float *far, size_t far_len, float *out, size_t out_len);

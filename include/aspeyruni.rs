@@ -256,6 +256,52 @@ pub mod tau {
         answer!(aspeyruni_tau_process(state) lent(shadow, output, spectra) read(near, far) written(out))
     }
 
+    /// `process` from the state of an earlier answer, whose place takes the new one. The state is copied into the call and nowhere
+    /// else, which is what a call of a few pairs costs.
+    pub fn process_on(
+        answer: &mut Answer,
+        [shadow, output, spectra]: Lent,
+        near: &[f32],
+        far: &[f32],
+        out: &mut [f32],
+    ) {
+        let place: *mut Answer = answer;
+        unsafe {
+            aspeyruni_tau_process(
+                place,
+                (*place).state,
+                shadow.as_mut_ptr(),
+                shadow.len(),
+                output.as_mut_ptr(),
+                output.len(),
+                spectra.as_mut_ptr(),
+                spectra.len(),
+                near.as_ptr(),
+                near.len(),
+                far.as_ptr(),
+                far.len(),
+                out.as_mut_ptr(),
+                out.len(),
+            )
+        }
+    }
+
+    /// As of a call that ran no block: where calls of `process_on` begin.
+    impl From<Started> for Answer {
+        fn from(Started { refusal, state }: Started) -> Answer {
+            Answer {
+                refusal,
+                delivered: 0,
+                state,
+                transfers: state.mic.transfers,
+                divergence_resets: state.mic.divergence_resets,
+                double_talk: state.mic.detector.double_talk,
+                outcome: 0,
+                leak: 0.0,
+            }
+        }
+    }
+
     /// Delivers what waits, at most 255 samples.
     pub fn flush(state: TauCanceller, [shadow, output, spectra]: Lent, out: &mut [f32]) -> Answer {
         answer!(aspeyruni_tau_flush(state) lent(shadow, output, spectra) written(out))
