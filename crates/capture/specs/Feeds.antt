@@ -5,7 +5,7 @@ use lib.Ieee.{Float}
 use lib.ListN.{length, take, drop, replicate}
 use Rattle.tau_steps.specs.Constants.{zero32}
 use Rattle.tau.specs.declared.calls.Answer.{Answer}
-use Rattle.tau.specs.Pairs.{Engine}
+use Rattle.tau_frame.specs.Pairs.{Engine}
 use Rattle.tau.specs.Calls.{Called, processOf, flushOf}
 use Rattle.tau_streams.specs.Stream.{deliveredBy}
 use Rattle.wire.specs.Wire.{nearIn, farIn, bytesOf}

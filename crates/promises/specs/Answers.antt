@@ -23,7 +23,7 @@ use Rattle.complex_fft.specs.Calls.{complexOf}
 use Rattle.fft.specs.Calls as fft
 use Rattle.rho.specs.Sample as sample
 use Rattle.rho.specs.Calls as rho
-use Rattle.tau.specs.Pairs.{Engine}
+use Rattle.tau_frame.specs.Pairs.{Engine}
 use Rattle.tau.specs.Calls as tau
 use Rattle.wire.specs.Wire.{pairsIn, sampleAt, writtenAt}
 use Rattle.capture.specs.Feeds as capture

@@ -15,7 +15,7 @@ use Rattle.rho.specs.State.{tapsOf}
 use Rattle.tau_steps.specs.Ranges.{rangedOf}
 use Rattle.tau_steps.specs.declared.state.TauCanceller.{TauCanceller}
 use Rattle.tau.specs.Fresh.{emptyOf}
-use Rattle.tau.specs.Pairs.{Engine}
+use Rattle.tau_frame.specs.Pairs.{Engine}
 use Rattle.tau.specs.Calls as tau
 
 -- A row of the table: a test, and the number that a call gets where it fails and none before it does.

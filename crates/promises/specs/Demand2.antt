@@ -16,7 +16,7 @@ use Rattle.tau_steps.specs.Paths.{counted}
 use Rattle.tau_steps.specs.declared.state.TauCanceller.{TauCanceller}
 use Rattle.tau_block.specs.Block.{runBlock}
 use Rattle.tau_block.specs.Resets.{clearsOf, howMany, moreBy, ShadowClears, OutputClears, UpdateClears, GuardClears}
-use Rattle.tau.specs.Pairs.{Engine, pairsOf, flushedOf}
+use Rattle.tau_frame.specs.Pairs.{Engine, pairsOf, flushedOf}
 use Rattle.tau.specs.Calls as tau
 
 -- the transform, where the lengths are right

@@ -15,7 +15,7 @@ use Rattle.rho.specs.Sample as sample
 use Rattle.rho.specs.Pairs as rhoPairs
 use Rattle.rho.specs.Calls as rho
 use Rattle.rho_streams.specs.Stream as rhoStream
-use Rattle.tau.specs.Pairs.{Engine, blockOf, pairsOf, flushedOf}
+use Rattle.tau_frame.specs.Pairs.{Engine, blockOf, pairsOf, flushedOf}
 use Rattle.tau.specs.Calls as tau
 use Rattle.tau_streams.specs.Stream.{Part, Level, Roomy, nearOf, farOf, rowOf, AllAccepted, ranBy, begunBy, Call, Since, anew, afterCalls, byBlocks, restOf}
 use Rattle.tau_streams.specs.Stream.Call.{feed, flush}

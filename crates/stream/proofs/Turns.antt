@@ -7,7 +7,7 @@ use lib.Dec.{leb}
 use lib.ListN.{length, getD, take}
 use Rattle.laws.specs.Choice.{pick, pick-yes}
 use Rattle.laws.specs.Loops.{over}
-use Rattle.tau.specs.Pairs.{Engine}
+use Rattle.tau_frame.specs.Pairs.{Engine}
 use Rattle.wire.specs.Wire.{restIn}
 use Rattle.wire.proofs.Captures.{rest-kept}
 use Rattle.capture.specs.Feeds.{Fed, fedOf}

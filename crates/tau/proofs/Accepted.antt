@@ -20,8 +20,9 @@ use Rattle.tau_steps.specs.Ranges.{rangedOf, Ranged}
 use Rattle.tau_steps.proofs.Ranged.{ranged-is, ranged-true}
 use Rattle.tau_steps.specs.declared.state.TauCanceller.{TauCanceller}
 use Rattle.tau.specs.Fresh.{emptyOf}
-use Rattle.tau.specs.Pairs.{Engine, pairsOf, flushedOf}
-use Rattle.tau.specs.Calls.{settingsOf, sizedOf, createRefusal, stateRefusal, deliversOf, pairsRefusal, processRefusal, flushRefusal, Begun, Called, begunOf, createOf, resetOf, refusedOf, servedOf, processOf, flushOf}
+use Rattle.tau_frame.specs.Pairs.{Engine, pairsOf, flushedOf}
+use Rattle.tau.specs.Calls.{settingsOf, sizedOf, createRefusal, stateRefusal, pairsRefusal, processRefusal, flushRefusal, Begun, Called, begunOf, createOf, resetOf, refusedOf, servedOf, processOf, flushOf}
+use Rattle.tau_frame.specs.Pairs.{deliversOf}
 use Rattle.tau.specs.Calls.{stateNumber, processNumber, flushNumber}
 
 -- ---- the state and the lent buffers

@@ -1,5 +1,2 @@
-pub mod Later
 pub mod Accepted
-pub mod Going
-pub mod Waits
-pub mod Ended
+pub mod Served

@@ -1,5 +1,5 @@
 -- What each call leaves: its answer, the three lent buffers and the output buffer. Definitions only.
-use Prim.Native.Nat.{ℕ, _+_, _*_, _/_}
+use Prim.Native.Nat.{ℕ, _*_}
 use mathlib.Core.Bool.{Bool, _&&_}
 use mathlib.Core.List.{List, [], _++_}
 use lib.Dec.{eqb, leb}
@@ -15,7 +15,7 @@ use Rattle.tau_steps.specs.declared.report.Outcome.the-variants.{NotRun}
 use Rattle.tau.specs.declared.calls.Started.{Started}
 use Rattle.tau.specs.declared.calls.Answer.{Answer}
 use Rattle.tau.specs.Fresh.{freshOf, emptyOf}
-use Rattle.tau.specs.Pairs.{Engine, Run, pairsOf, flushedOf}
+use Rattle.tau_frame.specs.Pairs.{Engine, Run, deliversOf, pairsOf, flushedOf}
 
 -- ---- the refusals, each number "given exactly when"
 
@@ -34,10 +34,6 @@ createRefusal parts shadow output spectra = pick (settingsOf parts) (pick (sized
 -- reset 6, 2 (6: "a stored state holds a number outside its range")
 unfoldable pub stateRefusal : TauCanceller → ℕ → ℕ → ℕ → ℕ
 stateRefusal s shadow output spectra = pick (rangedOf s) (pick (sizedOf (s .partitions) shadow output spectra) 0 2) 6
-
--- what a process of so many pairs would deliver: the whole blocks
-abbrev pub deliversOf : ℕ → ℕ → ℕ
-deliversOf carried pairs = (carried + pairs) / 256 * 256
 
 -- 3 "near and far lengths differ", 4 "more than 4,096 pairs in one call", 5 "the output buffer is shorter than this call would deliver"
 unfoldable pub pairsRefusal : ℕ → ℕ → ℕ → ℕ → ℕ

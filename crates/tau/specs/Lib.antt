@@ -1,4 +1,2 @@
 pub mod Fresh
-pub mod Pairs
-pub mod Lent
 pub mod Calls

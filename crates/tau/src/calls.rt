@@ -1,15 +1,15 @@
 // The public calls. A state goes in by value and comes back; the buffers are lent. A refused call writes nothing.
-use crate::frame::Framed;
-use crate::frame::flush_block;
-use crate::frame::run;
-use crate::frame::stay;
-use crate::frame::wait;
 use crate::fresh::empty;
 use crate::fresh::fresh;
 use crate::refusals::create_refusal;
 use crate::refusals::flush_refusal;
 use crate::refusals::process_refusal;
 use crate::refusals::state_refusal;
+use tau_frame::Framed;
+use tau_frame::flush_block;
+use tau_frame::run;
+use tau_frame::stay;
+use tau_frame::wait;
 use tau_steps::lent::Rest;
 use tau_steps::lent::rest_of;
 use tau_steps::lent::whole;
@@ -21,7 +21,7 @@ use tau_steps::weights::clear;
 ghost use mathlib.Core.Path.{_≡_};
 ghost use lib.ListN.{length};
 ghost use Rattle.tau_steps.specs.Lent.{suppressorOf, wholeOf};
-ghost use Rattle.tau.specs.Lent.{engineOf};
+ghost use Rattle.tau_frame.specs.Lent.{engineOf};
 ghost use Rattle.tau.specs.Calls.{processRefusal, flushRefusal, answerOf, createOf, processOf, flushOf, resetOf};
 
 // What creation and reset answer.

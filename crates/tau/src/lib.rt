@@ -1,6 +1,5 @@
 // TauCanceller: the block engine with the house detector.
 mod calls;
-mod frame;
 mod fresh;
 mod refusals;
 

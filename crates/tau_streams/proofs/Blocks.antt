@@ -16,7 +16,7 @@ use lib.ListN.{length, take, drop, set, length-drop, length-set, length-map, tak
 use lib.Seq.{take-at, drop-drop, take-suc-set, drop-set-lt, length-take-le}
 use Rattle.laws.specs.Choice.{pick-yes, pick-no}
 use Rattle.numbers.specs.Finite.{finiteOrZero}
-use Rattle.tau.specs.Pairs.{Engine, Run, waitsOf, carrying, blockOf, fillOf, pairOf, pairsOf, flushedOf}
+use Rattle.tau_frame.specs.Pairs.{Engine, Run, waitsOf, carrying, blockOf, fillOf, pairOf, pairsOf, flushedOf}
 use Rattle.tau_streams.specs.Stream.{Good, joined, cleanOf, blockOn, blocksOf, waiting, blocksThen, byBlocks, restOf}
 use Rattle.tau_streams.proofs.Counts.{pairs-sound, carries}
 use Rattle.tau_streams.proofs.Cut.{joined-first, joined-last, cut}

@@ -25,8 +25,9 @@ use Rattle.tau_steps.specs.declared.state.TauCanceller.{TauCanceller}
 use Rattle.tau_block.specs.Block.{runBlock}
 use Rattle.tau_block.proofs.Kept.{ranges-kept, lengths-kept, length-block}
 use Rattle.tau.specs.Fresh.{freshMic, freshOf}
-use Rattle.tau.specs.Pairs.{Engine, Run, waitsOf, carrying, blockOf, fillOf, pairOf, pairsOf, flushedOf}
-use Rattle.tau.specs.Calls.{createRefusal, deliversOf, Called, begunOf, createOf, resetOf, refusedOf, servedOf, processOf, flushOf}
+use Rattle.tau_frame.specs.Pairs.{Engine, Run, waitsOf, carrying, blockOf, fillOf, pairOf, pairsOf, flushedOf}
+use Rattle.tau.specs.Calls.{createRefusal, Called, begunOf, createOf, resetOf, refusedOf, servedOf, processOf, flushOf}
+use Rattle.tau_frame.specs.Pairs.{deliversOf}
 use Rattle.tau_streams.specs.Stream.{Sound, Good, begunBy}
 use Rattle.tau.specs.Calls.{stateNumber, processNumber, flushNumber}
 use Rattle.tau.proofs.Accepted.{accepted-state, state-accepted, accepted-pairs, accepted-flush, accepted-settings, create-began, reset-began, process-ran, flush-ran}

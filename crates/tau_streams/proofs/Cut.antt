@@ -19,11 +19,11 @@ use lib.Seq.{take-append-seam}
 use Rattle.laws.specs.Kinds.{All, all-none, all-cons}
 use Rattle.tau_steps.specs.Ranges.{Ranged}
 use Rattle.tau_steps.specs.Report.{reportOf}
-use Rattle.tau.specs.Pairs.{Engine, Run, waitsOf, pairOf, lastOf, pairsOf}
+use Rattle.tau_frame.specs.Pairs.{Engine, Run, waitsOf, pairOf, lastOf, pairsOf}
 use Rattle.tau.specs.Calls.{Called, servedOf, processOf}
 use Rattle.tau_streams.specs.Stream.{Sound, leftBy, ranBy, Part, Level, Roomy, nearOf, farOf, joined, thenOf, partsOf, rowOf, AllAccepted}
 use Rattle.tau.specs.Calls.{processNumber}
-use Rattle.tau.proofs.Later.{last-first, last-assoc}
+use Rattle.tau_frame.proofs.Later.{last-first, last-assoc}
 use Rattle.tau.proofs.Accepted.{Process, state-accepted, accepted-pairs, process-accepted, process-answers, process-ran}
 use Rattle.tau_streams.proofs.Counts.{pairs-sound, state-sound, delivers, carries}
 

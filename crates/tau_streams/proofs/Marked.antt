@@ -1,7 +1,7 @@
 -- M12, from the counts of a stream and of a flush. Assumes nothing.
 use mathlib.Core.Path.{_≡_, sym, _∙_}
 use native.Mathlib.Omega.{arith}
-use Rattle.tau.specs.Pairs.{Engine, pairsOf}
+use Rattle.tau_frame.specs.Pairs.{Engine, pairsOf}
 use Rattle.tau_streams.specs.Stream.{Good, rowOf}
 use Rattle.tau_streams.specs.Marked.{Created, M12, M12Calls}
 use Rattle.tau.proofs.Accepted.{create-answers, flush-answers}

@@ -17,7 +17,7 @@ use Rattle.tau_steps.specs.Ranges.{Ranged}
 use Rattle.tau_steps.specs.declared.report.Outcome.{Outcome}
 use Rattle.tau_steps.specs.declared.report.Outcome.the-variants.{NotRun, NoMove, Rescue, Move}
 use Rattle.tau_block.proofs.Ran.{ran-outcome}
-use Rattle.tau.specs.Pairs.{Engine, Run, blockOf, fillOf, pairOf, lastOf, pairsOf, flushedOf}
+use Rattle.tau_frame.specs.Pairs.{Engine, Run, blockOf, fillOf, pairOf, lastOf, pairsOf, flushedOf}
 use Rattle.tau.specs.Calls.{processOf, flushOf}
 use Rattle.tau_streams.specs.Stream.{ranBy, joined}
 use Rattle.tau.specs.Calls.{processNumber, flushNumber}

@@ -36,8 +36,9 @@ use Rattle.tau_block.specs.Silence.{Near, Silent}
 use Rattle.tau_block.proofs.Ran.{ran-handed}
 use Rattle.tau_block.proofs.Silence.{cleared-silent, block-passed}
 use Rattle.tau.specs.Fresh.{freshMic, freshOf}
-use Rattle.tau.specs.Pairs.{Engine, Run, waitsOf, carrying, blockOf, fillOf, pairOf, pairsOf, padded, flushedOf}
-use Rattle.tau.specs.Calls.{deliversOf, begunOf, processOf, flushOf}
+use Rattle.tau_frame.specs.Pairs.{Engine, Run, waitsOf, carrying, blockOf, fillOf, pairOf, pairsOf, padded, flushedOf}
+use Rattle.tau.specs.Calls.{begunOf, processOf, flushOf}
+use Rattle.tau_frame.specs.Pairs.{deliversOf}
 use Rattle.tau_streams.specs.Stream.{begunBy, ranBy, Part, cleanOf, joined, nearOf, farOf, rowOf, AllAccepted, Call, feed, flush, reset}
 use Rattle.tau_streams.specs.Silence.{heldNear, heldFar, Hushed, Begins, created, renewed, Passes, Emptied, Starts, madeBy, refusalBy, callsOf, AllTaken, takenOf, filledBy, givenOf, Gentle}
 use Rattle.tau.proofs.Accepted.{accepted-state, accepted-settings, accepted-pairs, create-answers, create-began, reset-answers, reset-began, reset-refused, process-answers, process-refused, flush-answers, flush-ran, flush-refused}

@@ -5,7 +5,7 @@ use mathlib.Core.List.{List}
 use Prim.Native.Nat.{ℕ}
 use lib.Ieee.{Float}
 use lib.ListN.{length}
-use Rattle.tau.specs.Pairs.{Engine, pairsOf, flushedOf}
+use Rattle.tau_frame.specs.Pairs.{Engine, pairsOf, flushedOf}
 use Rattle.tau.specs.Calls.{createOf, flushOf}
 use Rattle.tau_streams.specs.Stream.{begunBy, Part, nearOf, rowOf, AllAccepted}
 

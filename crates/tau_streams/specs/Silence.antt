@@ -11,8 +11,9 @@ use Rattle.laws.specs.Choice.{pick}
 use Rattle.laws.specs.Kinds.{All}
 use Rattle.numbers.specs.Zeros.{Zero, Finite, Fits, Still}
 use Rattle.tau_block.specs.Silence.{Silent}
-use Rattle.tau.specs.Pairs.{Engine, Run, waitsOf}
-use Rattle.tau.specs.Calls.{deliversOf, createOf, resetOf, processOf, flushOf}
+use Rattle.tau_frame.specs.Pairs.{Engine, Run, waitsOf}
+use Rattle.tau.specs.Calls.{createOf, resetOf, processOf, flushOf}
+use Rattle.tau_frame.specs.Pairs.{deliversOf}
 use Rattle.tau_streams.specs.Stream.{begunBy, ranBy, joined, Row, Call, feed, flush, reset}
 
 -- ---- samples and engines

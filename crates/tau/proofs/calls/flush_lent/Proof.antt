@@ -3,7 +3,7 @@ use borrow.Author.Tests.{eq-eqb, ne-eqb}
 use Rattle.laws.specs.Choice.{pick-yes, pick-no}
 use Rattle.tau.specs.Calls.{flushOf}
 use Rattle.tau.proofs.Accepted.{accepted-flush}
-use Rattle.tau.proofs.Ended.{served-is}
+use Rattle.tau.proofs.Served.{served-is}
 use borrow.Author.Needs.{needs}
 use Rattle.tau.proofs.calls.flush_lent.Statement.{statement}
 use Rattle.tau.proofs.calls.flush_lent.Tie as tie

@@ -4,11 +4,11 @@ use native.Mathlib.Omega.{arith}
 use borrow.Author.Tests.{eq-eqb, ne-eqb}
 use Rattle.laws.specs.Choice.{pick-yes, pick-no}
 use Rattle.tau_steps.specs.Lent.{suppressorOf}
-use Rattle.tau.specs.Lent.{engineOf}
+use Rattle.tau_frame.specs.Lent.{engineOf}
 use Rattle.tau.specs.Calls.{processOf}
 use Rattle.tau.proofs.Accepted.{accepted-pairs}
-use Rattle.tau.proofs.Ended.{served-is}
-use Rattle.tau.proofs.Waits.{served-waits}
+use Rattle.tau.proofs.Served.{served-is}
+use Rattle.tau.proofs.Served.{served-waits}
 use borrow.Author.Needs.{needs}
 use Rattle.tau.proofs.calls.process_lent.Statement.{statement}
 use Rattle.tau.proofs.calls.process_lent.Tie as tie

@@ -3,12 +3,12 @@ use native.Mathlib.Omega.{arith}
 use borrow.Author.Tests.{eq-eqb}
 use Rattle.laws.specs.Choice.{pick-yes}
 use Rattle.tau_block.proofs.Composed.{run-carried}
-use Rattle.tau.specs.Pairs.{flushedOf}
-use Rattle.tau.proofs.Going.{block-long, block-count}
-use Rattle.tau.proofs.Ended.{flush-is}
+use Rattle.tau_frame.specs.Pairs.{flushedOf}
+use Rattle.tau_frame.proofs.Going.{block-long, block-count}
+use Rattle.tau_frame.proofs.Ended.{flush-is}
 use borrow.Author.Needs.{needs}
-use Rattle.tau.proofs.frame.flush_block.Statement.{statement}
-use Rattle.tau.proofs.frame.flush_block.Tie as tie
+use Rattle.tau_frame.proofs.frame.flush_block.Statement.{statement}
+use Rattle.tau_frame.proofs.frame.flush_block.Tie as tie
 
 pub flush-block-spec : {M : Type 1} → statement M
 unfolding flushedOf

@@ -2,7 +2,7 @@
 use mathlib.Core.Path.{_≡_, refl}
 use Rattle.tau_steps.specs.declared.report.Outcome.{Outcome}
 use Rattle.tau_steps.specs.declared.report.Outcome.the-variants.{NotRun, NoMove, Rescue, Move}
-use Rattle.tau.specs.Pairs.{lastOf}
+use Rattle.tau_frame.specs.Pairs.{lastOf}
 
 pub last-none : (o : Outcome) → lastOf o NotRun ≡ o
 unfolding lastOf

@@ -1,7 +1,6 @@
 -- Pairs that fill no block. Assumes nothing.
 --     filled-none, filled-next, filled-all     the loop that fills a carry: where it starts, a turn, and the end
 --     wait-is         the run over such pairs: they lie in the carry, and no block is run
---     served-waits    what a call with them leaves
 use mathlib.Core.Path.{_≡_, refl, sym, ap, _∙_}
 use mathlib.Core.List.{List, [], _∷_}
 use Prim.Native.Nat.{ℕ, _+_, _≤_, _<_}
@@ -13,10 +12,8 @@ use lib.ListN.{length, getD, set, drop, drop-of-length-le}
 use lib.Seq.{drop-cons}
 use Rattle.laws.specs.Choice.{pick-no}
 use Rattle.numbers.specs.Finite.{finiteOrZero}
-use Rattle.tau_steps.specs.declared.report.Outcome.the-variants.{NotRun}
-use Rattle.tau.specs.Pairs.{Engine, Run, waitsOf, carrying, fillOf, pairOf, pairsOf, lastOf}
-use Rattle.tau.specs.Lent.{filledOf}
-use Rattle.tau.specs.Calls.{Called, answerOf, servedOf}
+use Rattle.tau_frame.specs.Pairs.{Engine, Run, waitsOf, carrying, fillOf, pairOf, pairsOf, lastOf}
+use Rattle.tau_frame.specs.Lent.{filledOf}
 
 -- ---- a carry
 
@@ -65,16 +62,3 @@ wait-is e (x ∷ near) (y ∷ far) h room =
     let rest = wait-is (fillOf e x y) near far (omega arith) (omega arith) in
     let count : n + 1 + length near ≡ n + length (x ∷ near) = omega arith in
     rw (← one-waits e x y (omega arith), rest, count)
-
--- ---- the call
-
-pub served-waits : (refusal : ℕ) (e : Engine) (near far out : List Float) → refusal ≡ 0 → length near ≡ length far → e .state .carried + length near ≤ 255
-    → _≡_ {A = Called} (record {
-      answer = answerOf refusal 0 (waiting e near far .state) NotRun;
-      shadow = e .shadow;
-      output = e .output;
-      spectra = e .spectra;
-      out = out;
-    })
-    (servedOf (pairsOf e near far) out)
-served-waits refusal e near far out none h room = rw (none, wait-is e near far h room)

@@ -1,6 +1,4 @@
--- How a call ends: from what the framing left to what the call leaves. Assumes nothing.
---     served-is     the delivered samples in the output buffer's first places, the rest as it was
---     flush-is      the flush's block
+-- How a flush ends: its block, and the delivered samples in the output buffer's first places (`flush-is`). Assumes nothing.
 use mathlib.Core.Path.{_≡_, refl, sym, ap, _∙_}
 use mathlib.Core.Bool.{false}
 use mathlib.Core.List.{List, _++_}
@@ -9,23 +7,13 @@ use native.Mathlib.Nat.{zero-add}
 use native.Mathlib.Omega.{arith}
 use borrow.Author.Tests.{ne-eqb}
 use lib.Ieee.{Float}
-use lib.ListN.{length, take, drop, take-append-drop, length-append, length-drop}
+use lib.ListN.{length, take, drop, length-append, length-drop}
 use lib.Seq.{take-at, drop-at, length-take-le}
 use Rattle.laws.specs.Choice.{pick-no}
 use Rattle.tau_steps.specs.declared.state.TauCanceller.{TauCanceller}
-use Rattle.tau_steps.specs.declared.report.Outcome.{Outcome}
 use Rattle.tau_block.specs.Block.{Ran, runBlock}
-use Rattle.tau.specs.declared.calls.Answer.{Answer}
-use Rattle.tau.specs.Pairs.{Engine, Run, carrying, blockOf, padded, flushedOf}
-use Rattle.tau.specs.Calls.{Called, answerOf, servedOf}
-use Rattle.tau.proofs.Going.{block-long}
-
-pub served-is : (e : Engine) (d : ℕ) (last : Outcome) (out out₀ : List Float) (r : Run) → _≡_ {A = Run} (record { engine = e; samples = take d out; last = last }) r
-    → drop d out ≡ drop d out₀ → d ≤ length out → (a : Answer) → a ≡ answerOf 0 d (e .state) last
-    → _≡_ {A = Called} (record { answer = a; shadow = e .shadow; output = e .output; spectra = e .spectra; out = out }) (servedOf r out₀)
-served-is e d last out out₀ r er tail room a ea =
-    let k : length (take d out) ≡ d = length-take-le d out room in
-    rw (← er, ea, k, ← tail, take-append-drop d out)
+use Rattle.tau_frame.specs.Pairs.{Engine, Run, carrying, blockOf, padded, flushedOf}
+use Rattle.tau_frame.proofs.Going.{block-long}
 
 pub record Flushed (s : TauCanceller) (sh ou xs out : List Float) (r : Ran) (out' : List Float) : Type 0 where
   pub run : _≡_ {A = Run} (record {

@@ -9,8 +9,8 @@ use Rattle.tau_steps.specs.Lent.{wholeOf}
 use Rattle.tau_steps.specs.declared.lent.Rest.{Rest}
 use Rattle.tau_steps.specs.declared.state.Suppressor.{Suppressor}
 use Rattle.tau_steps.specs.declared.report.Outcome.the-variants.{NotRun}
-use Rattle.tau.specs.declared.frame.Framed.{Framed}
-use Rattle.tau.specs.Pairs.{Engine}
+use Rattle.tau_frame.specs.declared.frame.Framed.{Framed}
+use Rattle.tau_frame.specs.Pairs.{Engine}
 
 -- a rest, the two carries, the far window, the means of far power and the suppressor; then shadow, output and spectra
 abbrev pub engineOf : Rest → List Float → List Float → List Float → List Float → Suppressor → List Float → List Float → List Float → Engine

@@ -4,8 +4,8 @@ use native.Mathlib.Omega.{arith}
 use Rattle.laws.specs.Loops.{loops, overAt}
 use Rattle.laws.specs.Readings.{overAt-padded}
 use Rattle.tau_steps.specs.Constants.{zero32}
-use Rattle.tau.proofs.frame.pad.Statement.{statement}
-use Rattle.tau.proofs.frame.pad.Tie as tie
+use Rattle.tau_frame.proofs.frame.pad.Statement.{statement}
+use Rattle.tau_frame.proofs.frame.pad.Tie as tie
 use borrow.Author.Needs.{needs}
 
 abbrev Inv-loop : tie.InvT-loop

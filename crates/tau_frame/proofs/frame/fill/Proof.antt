@@ -2,11 +2,11 @@ use mathlib.Core.Path.{_≡_, sym, _∙_}
 use Prim.Native.Nat.{_-_, _+_, _≤_}
 use native.Mathlib.Omega.{arith}
 use lib.ListN.{length, drop}
-use Rattle.tau.specs.Lent.{filledOf}
-use Rattle.tau.proofs.Waits.{filled-none, filled-next, filled-all}
+use Rattle.tau_frame.specs.Lent.{filledOf}
+use Rattle.tau_frame.proofs.Waits.{filled-none, filled-next, filled-all}
 use borrow.Author.Needs.{needs}
-use Rattle.tau.proofs.frame.fill.Statement.{statement}
-use Rattle.tau.proofs.frame.fill.Tie as tie
+use Rattle.tau_frame.proofs.frame.fill.Statement.{statement}
+use Rattle.tau_frame.proofs.frame.fill.Tie as tie
 
 abbrev Inv-loop : tie.InvT-loop
 Inv-loop carry₀ at samples j₀ carry j = (j ≤ length samples) × (filledOf carry (at + j) (drop j samples) ≡ filledOf carry₀ at samples)

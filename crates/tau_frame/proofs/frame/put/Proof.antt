@@ -5,8 +5,8 @@ use lib.Ieee.{nan}
 use lib.ListN.{length, getD}
 use Rattle.laws.specs.Loops.{loops, overAt}
 use Rattle.laws.specs.Readings.{overAt-copied}
-use Rattle.tau.proofs.frame.put.Statement.{statement}
-use Rattle.tau.proofs.frame.put.Tie as tie
+use Rattle.tau_frame.proofs.frame.put.Statement.{statement}
+use Rattle.tau_frame.proofs.frame.put.Tie as tie
 use borrow.Author.Needs.{needs}
 
 abbrev Inv-loop : tie.InvT-loop

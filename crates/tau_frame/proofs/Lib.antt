@@ -1,0 +1,4 @@
+pub mod Later
+pub mod Going
+pub mod Waits
+pub mod Ended
