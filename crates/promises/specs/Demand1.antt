@@ -15,7 +15,7 @@ use Rattle.rho.specs.State.{tapsOf}
 use Rattle.tau_steps.specs.Ranges.{rangedOf}
 use Rattle.tau_steps.specs.declared.state.TauCanceller.{TauCanceller}
 use Rattle.tau.specs.Fresh.{emptyOf}
-use Rattle.tau_frame.specs.Pairs.{Engine}
+use Rattle.tau_frame.specs.Pairs.{Engine, deliversOf}
 use Rattle.tau.specs.Calls as tau
 
 -- A row of the table: a test, and the number that a call gets where it fails and none before it does.
@@ -69,7 +69,7 @@ tauProcess = (e : Engine) (near far out : List Float)
     ∷ row (tauSized (e .state .partitions) (e .shadow) (e .output) (e .spectra)) 2
     ∷ row (eqb (length near) (length far)) 3
     ∷ row (leb (length near) 4096) 4
-    ∷ row (leb (tau.deliversOf (e .state .carried) (length near)) (length out)) 5
+    ∷ row (leb (deliversOf (e .state .carried) (length near)) (length out)) 5
     ∷ [])
 
 -- flush 6, 2, 5
