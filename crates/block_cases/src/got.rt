@@ -1,9 +1,9 @@
 // What a line comes to.
 use tau_block::Blocked;
 use tau_lines::numbers_of;
-use tau_steps::report::leak_of;
-use tau_steps::report::number;
-use tau_steps::state::TauCanceller;
+use tau_state::report::leak_of;
+use tau_state::report::number;
+use tau_state::state::TauCanceller;
 
 // What a line comes to, but for the lent buffers: where there is a step as it says, the state, and the last block's outcome by its number,
 // its leak's bits and its samples' hash.

@@ -19,7 +19,7 @@ use got::fields_of;
 use steps::begun;
 use steps::done;
 use tau_lines::fresh;
-use tau_steps::state::TauCanceller;
+use tau_state::state::TauCanceller;
 ghost use mathlib.Core.Path.{_≡_};
 ghost use lib.ListN.{length};
 

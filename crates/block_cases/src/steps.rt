@@ -14,7 +14,7 @@ use crate::got::unknown;
 use crate::made::heard;
 use tau_lines::fresh;
 use tau_lines::set;
-use tau_steps::state::TauCanceller;
+use tau_state::state::TauCanceller;
 ghost use mathlib.Core.Path.{_≡_};
 ghost use Prim.Native.Nat.{_≤_};
 ghost use lib.ListN.{length};

@@ -2,7 +2,7 @@
 -- buffer. Definitions only.
 use mathlib.Core.List.{List}
 use lib.Ieee.{Float}
-use Rattle.tau_steps.specs.Report.{numberOf, leakIn}
+use Rattle.tau_state.specs.Report.{numberOf, leakIn}
 use Rattle.tau.specs.declared.calls.Answer.{Answer}
 use Rattle.tau.specs.Calls.{Called}
 use Rattle.capi.specs.declared.tau_calls.TauAnswer.{TauAnswer}

@@ -1,9 +1,9 @@
 // Tau. C has no enum with a value, so the report comes as numbers: what else there is, is as the functions below answer it.
 use tau::Answer;
 use tau::Started;
-use tau_steps::report::leak_of;
-use tau_steps::report::number;
-use tau_steps::state::TauCanceller;
+use tau_state::report::leak_of;
+use tau_state::report::number;
+use tau_state::state::TauCanceller;
 ghost use mathlib.Core.Path.{_≡_};
 ghost use Rattle.tau.specs.Calls.{createOf, processOf, flushOf, resetOf};
 ghost use Rattle.capi.specs.Tau.{numbersOf, hostedOf};

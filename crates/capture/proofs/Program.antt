@@ -12,7 +12,7 @@ use lib.Seq.{take-at, take-append-seam}
 use Rattle.laws.specs.Kinds.{All, all-none, all-cons, all-append, all-table}
 use Rattle.laws.specs.Tables.{table}
 use Rattle.numbers.specs.Zeros.{Fits}
-use Rattle.tau_steps.specs.Constants.{zero32, zero64}
+use Rattle.tau_state.specs.Constants.{zero32, zero64}
 use Rattle.tau_frame.specs.Pairs.{Engine, Run, pairsOf, flushedOf}
 use Rattle.tau.specs.Calls.{createRefusal, Called, servedOf, processOf, flushOf}
 use Rattle.tau_streams.specs.Stream.{Good, joined}

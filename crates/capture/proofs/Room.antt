@@ -21,7 +21,7 @@ use lib.Seq.{length-take-le, take-append-le, take-all, take-length}
 use Rattle.laws.specs.Choice.{pick-if, lt-or-ge}
 use Rattle.laws.specs.Kinds.{all-same, all-take, all-replicate}
 use Rattle.laws.specs.Loops.{over}
-use Rattle.tau_steps.specs.Constants.{zero32}
+use Rattle.tau_state.specs.Constants.{zero32}
 use Rattle.tau_frame.specs.Pairs.{Engine}
 use Rattle.tau.specs.Calls.{Called, processOf, flushOf}
 use Rattle.tau_streams.specs.Stream.{deliveredBy}

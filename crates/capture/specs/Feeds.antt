@@ -3,7 +3,7 @@ use mathlib.Core.List.{List, _++_}
 use Prim.Native.Nat.{ℕ, _*_, _/_, min}
 use lib.Ieee.{Float}
 use lib.ListN.{length, take, drop, replicate}
-use Rattle.tau_steps.specs.Constants.{zero32}
+use Rattle.tau_state.specs.Constants.{zero32}
 use Rattle.tau.specs.declared.calls.Answer.{Answer}
 use Rattle.tau_frame.specs.Pairs.{Engine}
 use Rattle.tau.specs.Calls.{Called, processOf, flushOf}

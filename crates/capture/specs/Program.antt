@@ -10,7 +10,7 @@ use lib.ListN.{length, take, replicate}
 use Rattle.laws.specs.Kinds.{All}
 use Rattle.numbers.specs.Finite.{finiteOrZero}
 use Rattle.numbers.specs.Zeros.{Still}
-use Rattle.tau_steps.specs.Constants.{zero64}
+use Rattle.tau_state.specs.Constants.{zero64}
 use Rattle.tau_frame.specs.Pairs.{Engine, pairsOf, flushedOf}
 use Rattle.tau.specs.Calls.{createOf}
 use Rattle.tau_streams.specs.Stream.{begunBy}

@@ -4,7 +4,7 @@
 // nothing.
 use numbers::lesser;
 use tau::Answer;
-use tau_steps::state::TauCanceller;
+use tau_state::state::TauCanceller;
 ghost use mathlib.Core.Path.{_≡_};
 ghost use Rattle.capture.specs.Feeds.{fedOf, finishedOf};
 

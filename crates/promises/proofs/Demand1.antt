@@ -10,7 +10,7 @@ use Rattle.laws.specs.Choice.{pick, pick-yes, pick-no, pick-if}
 use Rattle.fft.specs.Calls.{Wrote, forwardOf, inverseOf}
 use Rattle.rho.specs.Calls as rho
 use Rattle.rho_streams.proofs.Counts as rhoCounts
-use Rattle.tau_steps.specs.Ranges.{rangedOf}
+use Rattle.tau_state.specs.Ranges.{rangedOf}
 use Rattle.tau.specs.Fresh.{emptyOf}
 use Rattle.tau.specs.Calls as tau
 use Rattle.tau.proofs.Accepted as accepted

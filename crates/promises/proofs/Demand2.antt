@@ -2,9 +2,9 @@
 use mathlib.Core.Path.{_≡_, sym, _∙_}
 use Rattle.fft.proofs.Served.{forward-served, inverse-served}
 use Rattle.rho_streams.proofs.Counts as rhoCounts
-use Rattle.tau_block.specs.Resets.{clearsOf, howMany}
-use Rattle.tau_block.proofs.Ran.{ran-transfers}
-use Rattle.tau_block.proofs.Resets.{ran-resets, more-held, shadow-clears, output-clears, update-clears, guard-clears}
+use Rattle.tau_block_laws.specs.Resets.{clearsOf, howMany}
+use Rattle.tau_block_laws.proofs.Ran.{ran-transfers}
+use Rattle.tau_block_laws.proofs.Resets.{ran-resets, more-held, shadow-clears, output-clears, update-clears, guard-clears}
 use Rattle.tau.proofs.Accepted as accepted
 use Rattle.promises.specs.Demand2.{Transform, TauRuns, RhoRuns, Transfers, Resets, Clears}
 

@@ -12,8 +12,8 @@ use Rattle.fft.specs.Calls.{forwardOf, inverseOf}
 use Rattle.rho.specs.Sample as sample
 use Rattle.rho.specs.Calls as rho
 use Rattle.rho.specs.State.{tapsOf}
-use Rattle.tau_steps.specs.Ranges.{rangedOf}
-use Rattle.tau_steps.specs.declared.state.TauCanceller.{TauCanceller}
+use Rattle.tau_state.specs.Ranges.{rangedOf}
+use Rattle.tau_state.specs.declared.state.TauCanceller.{TauCanceller}
 use Rattle.tau.specs.Fresh.{emptyOf}
 use Rattle.tau_frame.specs.Pairs.{Engine, deliversOf}
 use Rattle.tau.specs.Calls as tau

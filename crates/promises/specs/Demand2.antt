@@ -13,9 +13,9 @@ use Rattle.rho.specs.Sample as sample
 use Rattle.rho.specs.Calls as rho
 use Rattle.rho_streams.proofs.Counts as rhoCounts
 use Rattle.tau_steps.specs.Paths.{counted}
-use Rattle.tau_steps.specs.declared.state.TauCanceller.{TauCanceller}
+use Rattle.tau_state.specs.declared.state.TauCanceller.{TauCanceller}
 use Rattle.tau_block.specs.Block.{runBlock}
-use Rattle.tau_block.specs.Resets.{clearsOf, howMany, moreBy, ShadowClears, OutputClears, UpdateClears, GuardClears}
+use Rattle.tau_block_laws.specs.Resets.{clearsOf, howMany, moreBy, ShadowClears, OutputClears, UpdateClears, GuardClears}
 use Rattle.tau_frame.specs.Pairs.{Engine, pairsOf, flushedOf}
 use Rattle.tau.specs.Calls as tau
 

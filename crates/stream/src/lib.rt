@@ -9,7 +9,7 @@ mod output;
 use libc::STDIN_FILENO;
 use output::complain;
 use output::emit;
-use tau_steps::state::TauCanceller;
+use tau_state::state::TauCanceller;
 ghost use mathlib.Core.Path.{_≡_};
 ghost use Prim.Native.Nat.{_<_, _≤_};
 ghost use lib.ListN.{length, take};

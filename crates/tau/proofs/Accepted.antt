@@ -16,9 +16,9 @@ use lib.Dec.{eqb, leb}
 use lib.Ieee.{Float}
 use lib.ListN.{length}
 use Rattle.laws.specs.Choice.{pick-yes, pick-no, pick-if, both}
-use Rattle.tau_steps.specs.Ranges.{rangedOf, Ranged}
-use Rattle.tau_steps.proofs.Ranged.{ranged-is, ranged-true}
-use Rattle.tau_steps.specs.declared.state.TauCanceller.{TauCanceller}
+use Rattle.tau_state.specs.Ranges.{rangedOf, Ranged}
+use Rattle.tau_state.proofs.Ranged.{ranged-is, ranged-true}
+use Rattle.tau_state.specs.declared.state.TauCanceller.{TauCanceller}
 use Rattle.tau.specs.Fresh.{emptyOf}
 use Rattle.tau_frame.specs.Pairs.{Engine, pairsOf, flushedOf}
 use Rattle.tau.specs.Calls.{settingsOf, sizedOf, createRefusal, stateRefusal, pairsRefusal, processRefusal, flushRefusal, Begun, Called, begunOf, createOf, resetOf, refusedOf, servedOf, processOf, flushOf}

@@ -7,8 +7,8 @@ use Prim.Native.Nat.{ℕ, _+_, _≤_}
 use lib.Ieee.{Float}
 use lib.ListN.{length, take, drop, take-append-drop}
 use lib.Seq.{length-take-le}
-use Rattle.tau_steps.specs.declared.report.Outcome.{Outcome}
-use Rattle.tau_steps.specs.declared.report.Outcome.the-variants.{NotRun}
+use Rattle.tau_state.specs.declared.report.Outcome.{Outcome}
+use Rattle.tau_state.specs.declared.report.Outcome.the-variants.{NotRun}
 use Rattle.tau_frame.specs.Pairs.{Engine, Run, pairsOf}
 use Rattle.tau_frame.proofs.Waits.{waiting, wait-is}
 use Rattle.tau.specs.declared.calls.Answer.{Answer}

@@ -6,12 +6,12 @@ use lib.Dec.{eqb, leb}
 use lib.Ieee.{Float}
 use lib.ListN.{length, drop, replicate}
 use Rattle.laws.specs.Choice.{pick}
-use Rattle.tau_steps.specs.Constants.{zero64}
-use Rattle.tau_steps.specs.Ranges.{rangedOf}
-use Rattle.tau_steps.specs.Report.{reportOf}
-use Rattle.tau_steps.specs.declared.state.TauCanceller.{TauCanceller}
-use Rattle.tau_steps.specs.declared.report.Outcome.{Outcome}
-use Rattle.tau_steps.specs.declared.report.Outcome.the-variants.{NotRun}
+use Rattle.tau_state.specs.Constants.{zero64}
+use Rattle.tau_state.specs.Ranges.{rangedOf}
+use Rattle.tau_state.specs.Report.{reportOf}
+use Rattle.tau_state.specs.declared.state.TauCanceller.{TauCanceller}
+use Rattle.tau_state.specs.declared.report.Outcome.{Outcome}
+use Rattle.tau_state.specs.declared.report.Outcome.the-variants.{NotRun}
 use Rattle.tau.specs.declared.calls.Started.{Started}
 use Rattle.tau.specs.declared.calls.Answer.{Answer}
 use Rattle.tau.specs.Fresh.{freshOf, emptyOf}

@@ -3,9 +3,9 @@ use mathlib.Core.Bool.{Bool, false}
 use Prim.Native.Nat.{ℕ, _-_}
 use lib.ListN.{replicate}
 use lib.Ieee.{Float}
-use Rattle.tau_steps.specs.Constants.{zero32, zero64, one}
-use Rattle.tau_steps.specs.declared.state.TauCanceller.{TauCanceller}
-use Rattle.tau_steps.specs.declared.state.Mic.{Mic}
+use Rattle.tau_state.specs.Constants.{zero32, zero64, one}
+use Rattle.tau_state.specs.declared.state.TauCanceller.{TauCanceller}
+use Rattle.tau_state.specs.declared.state.Mic.{Mic}
 
 -- a microphone's part: every number 0 but for the step scale and the gains, and the two counters as they are kept
 unfoldable pub freshMic : Float → ℕ → ℕ → Mic

@@ -1,12 +1,12 @@
 // The states that creation and reset give.
-use tau_steps::state::Detector;
-use tau_steps::state::Far;
-use tau_steps::state::Guard;
-use tau_steps::state::Mic;
-use tau_steps::state::Paths;
-use tau_steps::state::Powers;
-use tau_steps::state::Suppressor;
-use tau_steps::state::TauCanceller;
+use tau_state::state::Detector;
+use tau_state::state::Far;
+use tau_state::state::Guard;
+use tau_state::state::Mic;
+use tau_state::state::Paths;
+use tau_state::state::Powers;
+use tau_state::state::Suppressor;
+use tau_state::state::TauCanceller;
 ghost use mathlib.Core.Path.{_≡_};
 ghost use Prim.Native.Nat.{_≤_};
 ghost use Rattle.tau.specs.Fresh.{freshMic, stateOf, freshOf, emptyOf};

@@ -1,6 +1,6 @@
 // The refusals, by their numbers, in document 01's order.
-use tau_steps::ranges::in_range;
-use tau_steps::state::TauCanceller;
+use tau_state::ranges::in_range;
+use tau_state::state::TauCanceller;
 ghost use mathlib.Core.Path.{_≡_};
 ghost use Prim.Native.Nat.{_≤_};
 ghost use Rattle.tau.specs.Calls.{sizedOf, createRefusal, stateRefusal, pairsRefusal, processRefusal, flushRefusal};

@@ -4,52 +4,29 @@ use mathlib.Core.Bool.{Bool, not, _&&_}
 use mathlib.Core.List.{List, []}
 use mathlib.Core.Path.{_≡_, ap, refl}
 use Prim.Native.Nat.{ℕ}
-use lib.ListN.{length}
 use lib.Ieee.{Float}
-use Rattle.laws.specs.Parts.{part, withPart}
-use Rattle.fft.specs.Calls.{spectrumOf}
-use Rattle.fft.proofs.Sizes.{length-spectrum}
-use Rattle.tau_steps.specs.Sums.{energyOf}
-use Rattle.tau_steps.specs.After.{Wrote, WroteBoth}
-use Rattle.tau_steps.specs.declared.state.Mic.{Mic}
-use Rattle.tau_steps.specs.declared.state.MicRest.{MicRest}
-use Rattle.tau_steps.specs.declared.state.Far.{Far}
-use Rattle.tau_steps.specs.declared.state.Suppressor.{Suppressor}
-use Rattle.tau_steps.specs.declared.report.Outcome.{Outcome}
-use Rattle.tau_steps.specs.Lent.{micOf, stateOf}
-use Rattle.tau_block.specs.Lent.{shadowedOf, estimatedOf, updatedOf, deliveredOf, noSuppressor, bare}
-use Rattle.tau_block.specs.declared.filter.Checked.{Checked}
-use Rattle.tau_block.specs.declared.update.UpdatedRest.{UpdatedRest}
+use Rattle.tau_state.specs.Sums.{energyOf}
+use Rattle.tau_state.specs.After.{Wrote, WroteBoth}
+use Rattle.tau_state.specs.declared.state.Mic.{Mic}
+use Rattle.tau_state.specs.declared.state.MicRest.{MicRest}
+use Rattle.tau_state.specs.declared.state.Far.{Far}
+use Rattle.tau_state.specs.declared.state.Suppressor.{Suppressor}
+use Rattle.tau_state.specs.declared.report.Outcome.{Outcome}
+use Rattle.tau_state.specs.Lent.{micOf, stateOf}
+use Rattle.tau_filter.specs.Lent.{shadowedOf, estimatedOf}
+use Rattle.tau_update.specs.Lent.{updatedOf}
+use Rattle.tau_block.specs.Lent.{deliveredOf, noSuppressor, bare}
+use Rattle.tau_filter.specs.declared.filter.Checked.{Checked}
+use Rattle.tau_update.specs.declared.update.UpdatedRest.{UpdatedRest}
 use Rattle.tau_block.specs.declared.block.DeliveredRest.{DeliveredRest}
 use Rattle.tau_block.specs.declared.block.Blocked.{Blocked}
-use Rattle.tau_block.specs.Filter.{slotOf}
-use Rattle.tau_block.specs.Update.{Learnt, gradientOf, constrained, stepped, finiteTo, learntAt, updated}
+use Rattle.tau_update.specs.Update.{updated}
 use Rattle.tau_block.specs.Block.{filtered, compares, delivered, gathered, listen, Ran, runBlock}
-use Rattle.tau_block.specs.declared.update.Updated.{Updated}
+use Rattle.tau_update.specs.declared.update.Updated.{Updated}
 use Rattle.tau_block.specs.declared.block.Filtered.{Filtered}
 use Rattle.tau_block.specs.declared.block.Judged.{Judged}
 use Rattle.tau_block.specs.declared.block.Delivered.{Delivered}
 use Rattle.tau_block.specs.declared.block.Listened.{Listened}
-
--- a constrained gradient is a spectrum
-pub length-constrained : (g : List Float) → length (constrained g) ≡ 514
-unfolding constrained spectrumOf
-length-constrained g = length-spectrum _ _ _
-
--- one partition of the update
-pub learnt-turn : (parts head : ℕ) (xs e rates w : List Float) (good : Bool) (p : ℕ)
-    {slot : ℕ} {x g h y v w' : List Float} {fine : Bool}
-    → slot ≡ slotOf head parts p
-    → x ≡ part 514 slot xs
-    → g ≡ gradientOf x e rates
-    → h ≡ constrained g
-    → y ≡ part 514 p w
-    → v ≡ stepped h y
-    → fine ≡ finiteTo v 514
-    → w' ≡ withPart 514 p w v
-    → _≡_ {A = Learnt} (record { weights = w'; good = good && fine }) (learntAt parts head xs e rates p (record { weights = w; good = good }))
-unfolding learntAt
-learnt-turn parts head xs e rates w good p e1 e2 e3 e4 e5 e6 e7 e8 = rw (e8, e7, e6, e5, e4, e3, e2, e1)
 
 -- a microphone's block
 pub listen-is : (parts : ℕ) (flag : Bool) (head : ℕ) (sounded active : Bool) (xs near : List Float) (n : ℕ) (adapt : Bool) (m : Mic) (sh ou : List Float)

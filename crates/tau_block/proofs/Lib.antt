@@ -1,6 +1,1 @@
 pub mod Composed
-pub mod Bounds
-pub mod Kept
-pub mod Silence
-pub mod Ran
-pub mod Resets

@@ -3,23 +3,23 @@ use mathlib.Core.Bool.{Bool, true, false, not, _&&_}
 use mathlib.Core.List.{List}
 use Prim.Native.Nat.{ℕ}
 use lib.Ieee.{Float}
-use Rattle.tau_steps.specs.Sums.{energyOf}
-use Rattle.tau_steps.specs.After.{Wrote, WroteBoth}
+use Rattle.tau_state.specs.Sums.{energyOf}
+use Rattle.tau_state.specs.After.{Wrote, WroteBoth}
 use Rattle.tau_steps.specs.Detector.{judged, established}
 use Rattle.tau_steps.specs.Paths.{compared}
 use Rattle.tau_steps.specs.Guard.{guarded}
 use Rattle.tau_steps.specs.Powers.{hosted}
-use Rattle.tau_steps.specs.declared.state.TauCanceller.{TauCanceller}
-use Rattle.tau_steps.specs.declared.state.Mic.{Mic}
-use Rattle.tau_steps.specs.declared.state.Detector.{Detector}
-use Rattle.tau_steps.specs.declared.state.Paths.{Paths}
-use Rattle.tau_block.specs.Far.{hearFar}
-use Rattle.tau_block.specs.Filter.{shadowed, estimated}
-use Rattle.tau_block.specs.Update.{updated}
-use Rattle.tau_block.specs.Suppressor.{suppressed}
+use Rattle.tau_state.specs.declared.state.TauCanceller.{TauCanceller}
+use Rattle.tau_state.specs.declared.state.Mic.{Mic}
+use Rattle.tau_state.specs.declared.state.Detector.{Detector}
+use Rattle.tau_state.specs.declared.state.Paths.{Paths}
+use Rattle.tau_spectra.specs.Far.{hearFar}
+use Rattle.tau_filter.specs.Filter.{shadowed, estimated}
+use Rattle.tau_update.specs.Update.{updated}
+use Rattle.tau_suppressor.specs.Suppressor.{suppressed}
 use Rattle.tau_steps.specs.declared.paths.Compared.{Compared}
-use Rattle.tau_block.specs.declared.filter.Estimated.{Estimated}
-use Rattle.tau_block.specs.declared.update.Updated.{Updated}
+use Rattle.tau_filter.specs.declared.filter.Estimated.{Estimated}
+use Rattle.tau_update.specs.declared.update.Updated.{Updated}
 use Rattle.tau_block.specs.declared.block.Filtered.{Filtered}
 use Rattle.tau_block.specs.declared.block.Judged.{Judged}
 use Rattle.tau_block.specs.declared.block.Delivered.{Delivered}

@@ -10,9 +10,9 @@
 //        28 to 38
 use tau::Answer;
 use tau::Started;
-use tau_steps::report::leak_of;
-use tau_steps::report::number;
-use tau_steps::state::TauCanceller;
+use tau_state::report::leak_of;
+use tau_state::report::number;
+use tau_state::state::TauCanceller;
 ghost use mathlib.Core.Path.{_≡_};
 ghost use lib.ListN.{length};
 

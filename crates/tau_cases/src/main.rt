@@ -21,7 +21,7 @@ use cases::Tally;
 use tau_lines::fresh;
 use tau_lines::halves;
 use tau_lines::numbers_of;
-use tau_steps::state::TauCanceller;
+use tau_state::state::TauCanceller;
 ghost use mathlib.Core.Path.{_≡_};
 ghost use lib.ListN.{length};
 

@@ -10,7 +10,7 @@ use lib.Ieee.{Float}
 use lib.ListN.{length, take, drop, length-append, length-drop}
 use lib.Seq.{take-at, drop-at, length-take-le}
 use Rattle.laws.specs.Choice.{pick-no}
-use Rattle.tau_steps.specs.declared.state.TauCanceller.{TauCanceller}
+use Rattle.tau_state.specs.declared.state.TauCanceller.{TauCanceller}
 use Rattle.tau_block.specs.Block.{Ran, runBlock}
 use Rattle.tau_frame.specs.Pairs.{Engine, Run, carrying, blockOf, padded, flushedOf}
 use Rattle.tau_frame.proofs.Going.{block-long}

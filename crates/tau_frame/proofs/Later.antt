@@ -1,7 +1,7 @@
 -- The outcome of the later of two: what `lastOf` makes of three, and of one that says that no block ran. Assumes nothing.
 use mathlib.Core.Path.{_≡_, refl}
-use Rattle.tau_steps.specs.declared.report.Outcome.{Outcome}
-use Rattle.tau_steps.specs.declared.report.Outcome.the-variants.{NotRun, NoMove, Rescue, Move}
+use Rattle.tau_state.specs.declared.report.Outcome.{Outcome}
+use Rattle.tau_state.specs.declared.report.Outcome.the-variants.{NotRun, NoMove, Rescue, Move}
 use Rattle.tau_frame.specs.Pairs.{lastOf}
 
 pub last-none : (o : Outcome) → lastOf o NotRun ≡ o

@@ -5,10 +5,10 @@ use Prim.Native.Nat.{ℕ, _+_}
 use lib.Ieee.{Float}
 use lib.ListN.{set}
 use Rattle.numbers.specs.Finite.{finiteOrZero}
-use Rattle.tau_steps.specs.Lent.{wholeOf}
-use Rattle.tau_steps.specs.declared.lent.Rest.{Rest}
-use Rattle.tau_steps.specs.declared.state.Suppressor.{Suppressor}
-use Rattle.tau_steps.specs.declared.report.Outcome.the-variants.{NotRun}
+use Rattle.tau_state.specs.Lent.{wholeOf}
+use Rattle.tau_state.specs.declared.lent.Rest.{Rest}
+use Rattle.tau_state.specs.declared.state.Suppressor.{Suppressor}
+use Rattle.tau_state.specs.declared.report.Outcome.the-variants.{NotRun}
 use Rattle.tau_frame.specs.declared.frame.Framed.{Framed}
 use Rattle.tau_frame.specs.Pairs.{Engine}
 

@@ -9,10 +9,10 @@ use lib.ListN.{set, take, replicate}
 use lib.Ieee.{Float}
 use Rattle.laws.specs.Choice.{pick}
 use Rattle.numbers.specs.Finite.{finiteOrZero}
-use Rattle.tau_steps.specs.Constants.{zero32}
-use Rattle.tau_steps.specs.declared.state.TauCanceller.{TauCanceller}
-use Rattle.tau_steps.specs.declared.report.Outcome.{Outcome}
-use Rattle.tau_steps.specs.declared.report.Outcome.the-variants.{NotRun, NoMove, Rescue, Move}
+use Rattle.tau_state.specs.Constants.{zero32}
+use Rattle.tau_state.specs.declared.state.TauCanceller.{TauCanceller}
+use Rattle.tau_state.specs.declared.report.Outcome.{Outcome}
+use Rattle.tau_state.specs.declared.report.Outcome.the-variants.{NotRun, NoMove, Rescue, Move}
 use Rattle.tau_block.specs.Block.{Ran, runBlock}
 
 -- the engine whole: its state and the three lent buffers

@@ -1,7 +1,7 @@
 // An array of the state, or a lent buffer, made anew.
 use crate::made::array;
 use crate::made::array32;
-use tau_steps::state::TauCanceller;
+use tau_state::state::TauCanceller;
 ghost use Prim.Native.Nat.{_≤_};
 ghost use lib.ListN.{length};
 

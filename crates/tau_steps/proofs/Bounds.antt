@@ -21,19 +21,19 @@ use Rattle.numbers.specs.Finite.{plus}
 use Rattle.numbers.specs.Order.{minOf}
 use Rattle.numbers.specs.Ranges.{one}
 use Rattle.numbers.proofs.Ordered.{total, min-right, same-of-le}
-use Rattle.tau_steps.specs.Constants.{zero64, f0-1, f0-5, f0-75}
-use Rattle.tau_steps.specs.Sums.{energyOf}
-use Rattle.tau_steps.specs.After.{Wrote, WroteBoth}
+use Rattle.tau_state.specs.Constants.{zero64, f0-1, f0-5, f0-75}
+use Rattle.tau_state.specs.Sums.{energyOf}
+use Rattle.tau_state.specs.After.{Wrote, WroteBoth}
 use Rattle.tau_steps.specs.Clears.{divergeShadow, divergeOf, retireOutput}
 use Rattle.tau_steps.specs.Detector.{countOf, learned, stands, judged}
 use Rattle.tau_steps.specs.Paths.{weighed, leakOf, advantageOf, verdict, settled, acted, compared}
 use Rattle.tau_steps.specs.Guard.{watched, trips, guarded}
-use Rattle.tau_steps.specs.declared.state.Detector.{Detector}
-use Rattle.tau_steps.specs.declared.state.Guard.{Guard}
-use Rattle.tau_steps.specs.declared.state.Paths.{Paths}
-use Rattle.tau_steps.specs.declared.state.Suppressor.{Suppressor}
-use Rattle.tau_steps.specs.declared.report.Outcome.{Outcome}
-use Rattle.tau_steps.specs.declared.report.Outcome.the-variants.{NotRun, NoMove, Rescue, Move}
+use Rattle.tau_state.specs.declared.state.Detector.{Detector}
+use Rattle.tau_state.specs.declared.state.Guard.{Guard}
+use Rattle.tau_state.specs.declared.state.Paths.{Paths}
+use Rattle.tau_state.specs.declared.state.Suppressor.{Suppressor}
+use Rattle.tau_state.specs.declared.report.Outcome.{Outcome}
+use Rattle.tau_state.specs.declared.report.Outcome.the-variants.{NotRun, NoMove, Rescue, Move}
 use Rattle.tau_steps.specs.declared.paths.Compared.{Compared}
 use Rattle.tau_steps.specs.declared.guard.Guarded.{Guarded}
 

@@ -10,18 +10,18 @@ use lib.Ieee.{Float, binary64, mul}
 use lib.ListN.{length, length-map, length-replicate}
 use Rattle.laws.specs.Choice.{pick-if}
 use Rattle.laws.specs.Loops.{length-over}
-use Rattle.tau_steps.specs.Constants.{zero64, f0-5}
-use Rattle.tau_steps.specs.Sums.{energyOf}
-use Rattle.tau_steps.specs.After.{Wrote, WroteBoth}
+use Rattle.tau_state.specs.Constants.{zero64, f0-5}
+use Rattle.tau_state.specs.Sums.{energyOf}
+use Rattle.tau_state.specs.After.{Wrote, WroteBoth}
 use Rattle.tau_steps.specs.Weights.{cleared, halved, leaked}
 use Rattle.tau_steps.specs.Clears.{divergeShadow, divergeOf, retireOutput}
 use Rattle.tau_steps.specs.Paths.{weighed, verdict, shadowAfter, outputAfter, acted, compared}
 use Rattle.tau_steps.specs.Guard.{watched, trips, replaced, guarded}
-use Rattle.tau_steps.specs.declared.state.Guard.{Guard}
-use Rattle.tau_steps.specs.declared.state.Paths.{Paths}
-use Rattle.tau_steps.specs.declared.state.Suppressor.{Suppressor}
-use Rattle.tau_steps.specs.declared.report.Outcome.{Outcome}
-use Rattle.tau_steps.specs.declared.report.Outcome.the-variants.{NotRun, NoMove, Rescue, Move}
+use Rattle.tau_state.specs.declared.state.Guard.{Guard}
+use Rattle.tau_state.specs.declared.state.Paths.{Paths}
+use Rattle.tau_state.specs.declared.state.Suppressor.{Suppressor}
+use Rattle.tau_state.specs.declared.report.Outcome.{Outcome}
+use Rattle.tau_state.specs.declared.report.Outcome.the-variants.{NotRun, NoMove, Rescue, Move}
 use Rattle.tau_steps.specs.declared.paths.Compared.{Compared}
 use Rattle.tau_steps.specs.declared.guard.Guarded.{Guarded}
 

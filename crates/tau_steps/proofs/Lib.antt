@@ -1,4 +1,3 @@
 pub mod Bounds
 pub mod Lengths
 pub mod Marked
-pub mod Ranged

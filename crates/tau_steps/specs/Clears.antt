@@ -4,11 +4,11 @@ use mathlib.Core.List.{List}
 use Prim.Native.Nat.{ℕ}
 use lib.ListN.{replicate}
 use lib.Ieee.{Float}
-use Rattle.tau_steps.specs.Constants.{zero64, one, oneMore}
+use Rattle.tau_state.specs.Constants.{zero64, one, oneMore}
 use Rattle.tau_steps.specs.Weights.{cleared, halved}
-use Rattle.tau_steps.specs.After.{Wrote, WroteBoth}
-use Rattle.tau_steps.specs.declared.state.Paths.{Paths}
-use Rattle.tau_steps.specs.declared.state.Suppressor.{Suppressor}
+use Rattle.tau_state.specs.After.{Wrote, WroteBoth}
+use Rattle.tau_state.specs.declared.state.Paths.{Paths}
+use Rattle.tau_state.specs.declared.state.Suppressor.{Suppressor}
 use Rattle.tau_steps.specs.declared.clears.ShadowCleared.{ShadowCleared}
 use Rattle.tau_steps.specs.declared.clears.OutputCleared.{OutputCleared}
 

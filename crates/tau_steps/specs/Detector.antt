@@ -6,9 +6,9 @@ use lib.Dec.{ltb, leb}
 use lib.Ieee.{Float, binary64, sub, mul, div, lt, eq}
 use Rattle.laws.specs.Choice.{pick}
 use Rattle.numbers.specs.Order.{absOf, maxOf, clampOf}
-use Rattle.tau_steps.specs.Constants.{zero64, one, f0-01, f0-2, f0-5, f0-8, f0-99, f3, smoothBy}
-use Rattle.tau_steps.specs.Sums.{energyOf, crossOf}
-use Rattle.tau_steps.specs.declared.state.Detector.{Detector}
+use Rattle.tau_state.specs.Constants.{zero64, one, f0-01, f0-2, f0-5, f0-8, f0-99, f3, smoothBy}
+use Rattle.tau_state.specs.Sums.{energyOf, crossOf}
+use Rattle.tau_state.specs.declared.state.Detector.{Detector}
 
 -- "c = cross*cross/(near energy*estimate energy); 0 where either energy is 0; 1 where the ratio is not below 1"
 unfoldable pub coherenceOf : Float → Float → Float → Float

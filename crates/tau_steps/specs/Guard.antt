@@ -6,13 +6,13 @@ use lib.ListN.{getD}
 use lib.Ieee.{Float, nan, binary64, mul, lt}
 use Rattle.laws.specs.Choice.{pick}
 use Rattle.laws.specs.Loops.{over}
-use Rattle.tau_steps.specs.Constants.{zero64, f0-98, f1-05, smoothBy}
-use Rattle.tau_steps.specs.Sums.{energyOf}
-use Rattle.tau_steps.specs.After.{Wrote}
+use Rattle.tau_state.specs.Constants.{zero64, f0-98, f1-05, smoothBy}
+use Rattle.tau_state.specs.Sums.{energyOf}
+use Rattle.tau_state.specs.After.{Wrote}
 use Rattle.tau_steps.specs.Clears.{retireOutput}
-use Rattle.tau_steps.specs.declared.state.Paths.{Paths}
-use Rattle.tau_steps.specs.declared.state.Suppressor.{Suppressor}
-use Rattle.tau_steps.specs.declared.state.Guard.{Guard}
+use Rattle.tau_state.specs.declared.state.Paths.{Paths}
+use Rattle.tau_state.specs.declared.state.Suppressor.{Suppressor}
+use Rattle.tau_state.specs.declared.state.Guard.{Guard}
 use Rattle.tau_steps.specs.declared.guard.Guarded.{Guarded}
 
 -- the two powers with this block's energies

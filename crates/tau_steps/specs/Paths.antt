@@ -6,13 +6,13 @@ use lib.Dec.{ltb, leb}
 use lib.Ieee.{Float, binary64, sub, mul, div, lt, le}
 use Rattle.laws.specs.Choice.{pick}
 use Rattle.numbers.specs.Order.{minOf}
-use Rattle.tau_steps.specs.Constants.{zero64, one, f0-1, f0-5, f0-75, f0-9, f4, smoothBy, oneMore, oneMore32}
-use Rattle.tau_steps.specs.Sums.{energyOf}
+use Rattle.tau_state.specs.Constants.{zero64, one, f0-1, f0-5, f0-75, f0-9, f4, smoothBy, oneMore, oneMore32}
+use Rattle.tau_state.specs.Sums.{energyOf}
 use Rattle.tau_steps.specs.Weights.{leaked}
-use Rattle.tau_steps.specs.After.{WroteBoth}
-use Rattle.tau_steps.specs.declared.state.Paths.{Paths}
-use Rattle.tau_steps.specs.declared.report.Outcome.{Outcome}
-use Rattle.tau_steps.specs.declared.report.Outcome.the-variants.{NotRun, NoMove, Rescue, Move}
+use Rattle.tau_state.specs.After.{WroteBoth}
+use Rattle.tau_state.specs.declared.state.Paths.{Paths}
+use Rattle.tau_state.specs.declared.report.Outcome.{Outcome}
+use Rattle.tau_state.specs.declared.report.Outcome.the-variants.{NotRun, NoMove, Rescue, Move}
 use Rattle.tau_steps.specs.declared.paths.Compared.{Compared}
 
 -- "Both error powers are smoothed by 0.9. A shadow power above 4.0 times the output power lengthens the rescue streak"; a quiet block lengthens the

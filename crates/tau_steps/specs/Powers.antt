@@ -4,8 +4,8 @@ use Prim.Native.Nat.{ℕ}
 use lib.ListN.{getD}
 use lib.Ieee.{Float, nan, binary64, mul}
 use Rattle.laws.specs.Loops.{iter}
-use Rattle.tau_steps.specs.Constants.{f0-999, smoothBy}
-use Rattle.tau_steps.specs.declared.state.Powers.{Powers}
+use Rattle.tau_state.specs.Constants.{f0-999, smoothBy}
+use Rattle.tau_state.specs.declared.state.Powers.{Powers}
 
 unfoldable pub heard : List Float → ℕ → Float → Float
 heard s n x = iter (λ k a. smoothBy f0-999 a (mul binary64 (getD s k nan) (getD s k nan))) x n

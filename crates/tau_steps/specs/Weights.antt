@@ -4,7 +4,7 @@ use Prim.Native.Nat.{ℕ}
 use lib.ListN.{getD, length, replicate}
 use lib.Ieee.{Float, nan, binary64, add, sub, mul}
 use Rattle.laws.specs.Loops.{over}
-use Rattle.tau_steps.specs.Constants.{zero64, f0-5}
+use Rattle.tau_state.specs.Constants.{zero64, f0-5}
 
 -- every number +0.0
 unfoldable pub cleared : List Float → List Float

@@ -1,13 +1,12 @@
 // The house detector: how much of the microphone the shadow's echo estimate accounts for. The numbers are document 01's.
-use crate::state::Detector;
-use crate::sums::cross;
-use crate::sums::energy;
-use crate::sums::smooth;
+use tau_state::state::DTD_ESTABLISH_BLOCKS;
+use tau_state::state::Detector;
+use tau_state::sums::cross;
+use tau_state::sums::energy;
+use tau_state::sums::smooth;
 ghost use mathlib.Core.Path.{_≡_};
 ghost use Prim.Native.Nat.{_≤_};
 ghost use Rattle.tau_steps.specs.Detector.{coherenceOf, countOf, baselineOf, collapsedOf, scaleOf, protectOf, learned, judged};
-
-pub const DTD_ESTABLISH_BLOCKS: u32 = 64;
 
 const COHERENCE_SMOOTHING: f64 = 0.8;
 

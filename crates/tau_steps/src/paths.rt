@@ -1,17 +1,17 @@
 // Step 5, the two-path comparison: has the shadow earned the output?
-use crate::report::Outcome;
-use crate::state::Paths;
-use crate::sums::energy;
-use crate::sums::one_more;
-use crate::sums::one_more_32;
-use crate::sums::smooth;
 use crate::weights::copy;
 use crate::weights::leak_to;
+use tau_state::report::Outcome;
+use tau_state::state::Paths;
+use tau_state::sums::energy;
+use tau_state::sums::one_more;
+use tau_state::sums::one_more_32;
+use tau_state::sums::smooth;
 ghost use mathlib.Core.Path.{_≡_};
 ghost use Prim.Native.Nat.{_≤_};
 ghost use lib.ListN.{length};
 ghost use Rattle.laws.specs.Choice.{pick};
-ghost use Rattle.tau_steps.specs.Constants.{oneMore32};
+ghost use Rattle.tau_state.specs.Constants.{oneMore32};
 ghost use Rattle.tau_steps.specs.Paths.{weighed, leakOf, verdict, acted, compared};
 
 const PATH_ERROR_SMOOTHING: f64 = 0.9;

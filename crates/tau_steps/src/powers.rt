@@ -1,6 +1,6 @@
 // Step 9: the two smoothed powers for the host.
-use crate::state::Powers;
-use crate::sums::smooth;
+use tau_state::state::Powers;
+use tau_state::sums::smooth;
 ghost use mathlib.Core.Path.{_≡_};
 ghost use Prim.Native.Nat.{_≤_};
 ghost use Rattle.tau_steps.specs.Powers.{heard, hosted};

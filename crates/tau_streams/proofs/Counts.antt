@@ -19,11 +19,11 @@ use lib.Ieee.{Float}
 use lib.ListN.{length, take, drop, length-append, length-drop, length-set, length-replicate}
 use lib.Seq.{take-at, drop-at, length-take-le}
 use Rattle.laws.specs.Choice.{pick-yes, pick-if}
-use Rattle.tau_steps.specs.Constants.{zero32, zero64}
-use Rattle.tau_steps.specs.Ranges.{Ranged}
-use Rattle.tau_steps.specs.declared.state.TauCanceller.{TauCanceller}
+use Rattle.tau_state.specs.Constants.{zero32, zero64}
+use Rattle.tau_state.specs.Ranges.{Ranged}
+use Rattle.tau_state.specs.declared.state.TauCanceller.{TauCanceller}
 use Rattle.tau_block.specs.Block.{runBlock}
-use Rattle.tau_block.proofs.Kept.{ranges-kept, lengths-kept, length-block}
+use Rattle.tau_block_laws.proofs.Kept.{ranges-kept, lengths-kept, length-block}
 use Rattle.tau.specs.Fresh.{freshMic, freshOf}
 use Rattle.tau_frame.specs.Pairs.{Engine, Run, waitsOf, carrying, blockOf, fillOf, pairOf, pairsOf, flushedOf}
 use Rattle.tau.specs.Calls.{createRefusal, Called, begunOf, createOf, resetOf, refusedOf, servedOf, processOf, flushOf}

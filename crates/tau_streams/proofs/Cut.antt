@@ -17,8 +17,8 @@ use lib.Ieee.{Float}
 use lib.ListN.{length, drop, length-append}
 use lib.Seq.{take-append-seam}
 use Rattle.laws.specs.Kinds.{All, all-none, all-cons}
-use Rattle.tau_steps.specs.Ranges.{Ranged}
-use Rattle.tau_steps.specs.Report.{reportOf}
+use Rattle.tau_state.specs.Ranges.{Ranged}
+use Rattle.tau_state.specs.Report.{reportOf}
 use Rattle.tau_frame.specs.Pairs.{Engine, Run, waitsOf, pairOf, lastOf, pairsOf}
 use Rattle.tau.specs.Calls.{Called, servedOf, processOf}
 use Rattle.tau_streams.specs.Stream.{Sound, leftBy, ranBy, Part, Level, Roomy, nearOf, farOf, joined, thenOf, partsOf, rowOf, AllAccepted}

@@ -13,10 +13,10 @@ use lib.Dec.{eqb}
 use lib.Ieee.{Float}
 use lib.ListN.{length, length-append}
 use Rattle.laws.specs.Choice.{pick-if}
-use Rattle.tau_steps.specs.Ranges.{Ranged}
-use Rattle.tau_steps.specs.declared.report.Outcome.{Outcome}
-use Rattle.tau_steps.specs.declared.report.Outcome.the-variants.{NotRun, NoMove, Rescue, Move}
-use Rattle.tau_block.proofs.Ran.{ran-outcome}
+use Rattle.tau_state.specs.Ranges.{Ranged}
+use Rattle.tau_state.specs.declared.report.Outcome.{Outcome}
+use Rattle.tau_state.specs.declared.report.Outcome.the-variants.{NotRun, NoMove, Rescue, Move}
+use Rattle.tau_block_laws.proofs.Ran.{ran-outcome}
 use Rattle.tau_frame.specs.Pairs.{Engine, Run, blockOf, fillOf, pairOf, lastOf, pairsOf, flushedOf}
 use Rattle.tau.specs.Calls.{processOf, flushOf}
 use Rattle.tau_streams.specs.Stream.{ranBy, joined}

@@ -29,12 +29,12 @@ use Rattle.numbers.specs.Finite.{plus, isFinite, finiteOrZero}
 use Rattle.numbers.specs.Zeros.{Zero, Finite, Fits, Still}
 use Rattle.numbers.proofs.Zeros.{plus-zero, zero-finite, zero-of-eq}
 use Rattle.numbers.proofs.Clean.{clean-finite, clean-fits}
-use Rattle.tau_steps.specs.Constants.{zero32}
-use Rattle.tau_steps.specs.Report.{reportOf}
-use Rattle.tau_steps.specs.declared.state.TauCanceller.{TauCanceller}
-use Rattle.tau_block.specs.Silence.{Near, Silent}
-use Rattle.tau_block.proofs.Ran.{ran-handed}
-use Rattle.tau_block.proofs.Silence.{cleared-silent, block-passed}
+use Rattle.tau_state.specs.Constants.{zero32}
+use Rattle.tau_state.specs.Report.{reportOf}
+use Rattle.tau_state.specs.declared.state.TauCanceller.{TauCanceller}
+use Rattle.tau_block_laws.specs.Silence.{Near, Silent}
+use Rattle.tau_block_laws.proofs.Ran.{ran-handed}
+use Rattle.tau_block_laws.proofs.Silence.{cleared-silent, block-passed}
 use Rattle.tau.specs.Fresh.{freshMic, freshOf}
 use Rattle.tau_frame.specs.Pairs.{Engine, Run, waitsOf, carrying, blockOf, fillOf, pairOf, pairsOf, padded, flushedOf}
 use Rattle.tau.specs.Calls.{begunOf, processOf, flushOf}

@@ -17,7 +17,7 @@ use lib.Dec.{eqb}
 use lib.Ieee.{Float}
 use lib.ListN.{length, drop, length-append, length-drop}
 use Rattle.laws.specs.Choice.{pick-if}
-use Rattle.tau_steps.specs.Report.{reportOf}
+use Rattle.tau_state.specs.Report.{reportOf}
 use Rattle.tau_frame.specs.Pairs.{Engine, Run, waitsOf, blockOf, pairsOf, flushedOf}
 use Rattle.tau.specs.Calls.{createRefusal, createOf, resetOf, refusedOf, processOf, flushOf}
 use Rattle.tau_streams.specs.Stream.{Good, begunBy, leftBy, ranBy, Part, joined, blocksOf, waiting, byBlocks, restOf, Call, feed, flush, reset, Since, anew, onward, afterCall, afterCalls, Uncut}

@@ -10,7 +10,7 @@ use lib.ListN.{length, take}
 use Rattle.laws.specs.Choice.{pick}
 use Rattle.laws.specs.Kinds.{All}
 use Rattle.numbers.specs.Zeros.{Zero, Finite, Fits, Still}
-use Rattle.tau_block.specs.Silence.{Silent}
+use Rattle.tau_block_laws.specs.Silence.{Silent}
 use Rattle.tau_frame.specs.Pairs.{Engine, Run, waitsOf}
 use Rattle.tau.specs.Calls.{createOf, resetOf, processOf, flushOf}
 use Rattle.tau_frame.specs.Pairs.{deliversOf}

@@ -10,8 +10,8 @@ use lib.ListN.{length, take, drop, replicate}
 use Rattle.laws.specs.Choice.{pick}
 use Rattle.laws.specs.Kinds.{All}
 use Rattle.numbers.specs.Finite.{finiteOrZero}
-use Rattle.tau_steps.specs.Constants.{zero32}
-use Rattle.tau_steps.specs.Ranges.{Ranged}
+use Rattle.tau_state.specs.Constants.{zero32}
+use Rattle.tau_state.specs.Ranges.{Ranged}
 use Rattle.tau_frame.specs.Pairs.{Engine, Run, waitsOf, carrying, blockOf, lastOf, pairsOf}
 use Rattle.tau.specs.Calls.{Begun, Called, resetOf, processOf, flushOf}
 use Rattle.tau_frame.specs.Pairs.{deliversOf}

@@ -3,7 +3,7 @@ use mathlib.Core.Path.{_≡_, refl, sym, _∙_}
 use native.Mathlib.Omega.{arith}
 use borrow.Author.Tests.{eq-eqb, ne-eqb}
 use Rattle.laws.specs.Choice.{pick-yes, pick-no}
-use Rattle.tau_steps.specs.Lent.{suppressorOf}
+use Rattle.tau_state.specs.Lent.{suppressorOf}
 use Rattle.tau_frame.specs.Lent.{engineOf}
 use Rattle.tau.specs.Calls.{processOf}
 use Rattle.tau.proofs.Accepted.{accepted-pairs}

@@ -2,7 +2,7 @@ use Rattle.tau.specs.Calls.{stateRefusal}
 use borrow.Author.Tests.{not-true, not-false, eq-eqb, ne-eqb, lt-leb, le-leb}
 use Rattle.laws.specs.Choice.{pick-yes, pick-no, choices}
 use mathlib.Core.Path.{_≡_, refl, sym, _∙_}
-use Rattle.tau_steps.proofs.Ranged.{ranged-is}
+use Rattle.tau_state.proofs.Ranged.{ranged-is}
 use borrow.Author.Needs.{needs}
 use Rattle.tau.proofs.refusals.state_refusal.Statement.{statement}
 use Rattle.tau.proofs.refusals.state_refusal.Tie as tie

@@ -3,7 +3,7 @@ use Prim.Native.Nat.{_-_, _+_, _≤_}
 use native.Mathlib.Omega.{arith}
 use Rattle.laws.specs.Loops.{loops, overAt}
 use Rattle.laws.specs.Readings.{overAt-padded}
-use Rattle.tau_steps.specs.Constants.{zero32}
+use Rattle.tau_state.specs.Constants.{zero32}
 use Rattle.tau_frame.proofs.frame.pad.Statement.{statement}
 use Rattle.tau_frame.proofs.frame.pad.Tie as tie
 use borrow.Author.Needs.{needs}

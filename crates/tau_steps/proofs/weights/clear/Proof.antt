@@ -4,7 +4,7 @@ use native.Mathlib.Omega.{arith}
 use lib.ListN.{length}
 use Rattle.laws.specs.Loops.{loops, over, over-whole}
 use Rattle.laws.specs.Readings.{over-fill}
-use Rattle.tau_steps.specs.Constants.{zero64}
+use Rattle.tau_state.specs.Constants.{zero64}
 use Rattle.tau_steps.specs.Weights.{cleared, halved, leaked}
 use borrow.Author.Needs.{needs}
 use Rattle.tau_steps.proofs.weights.clear.Statement.{statement}

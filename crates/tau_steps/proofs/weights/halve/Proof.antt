@@ -5,7 +5,7 @@ use lib.ListN.{length}
 use lib.Ieee.{binary64, mul}
 use Rattle.laws.specs.Loops.{loops, over, over-whole}
 use Rattle.laws.specs.Readings.{over-map}
-use Rattle.tau_steps.specs.Constants.{f0-5}
+use Rattle.tau_state.specs.Constants.{f0-5}
 use Rattle.tau_steps.specs.Weights.{cleared, halved, leaked}
 use borrow.Author.Needs.{needs}
 use Rattle.tau_steps.proofs.weights.halve.Statement.{statement}

@@ -1,0 +1,5 @@
+pub mod Bounds
+pub mod Kept
+pub mod Silence
+pub mod Ran
+pub mod Resets

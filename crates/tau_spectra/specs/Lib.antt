@@ -1,0 +1,4 @@
+pub mod Bins
+pub mod Windows
+pub mod Ring
+pub mod Far

@@ -1,0 +1,11 @@
+use Rattle.tau_state.specs.Report.{reportOf}
+use Rattle.tau_state.proofs.report.report_of.Statement.{statement}
+use Rattle.tau_state.proofs.report.report_of.Tie as tie
+use borrow.Author.Needs.{needs}
+
+pub report-of-spec : {M : Type 1} → statement M
+unfolding reportOf
+report-of-spec =
+    tie.close
+    (tie.spec
+    (λ c. search needs))

@@ -1,0 +1,15 @@
+use Rattle.tau_state.specs.Constants.{oneMore32}
+use Rattle.laws.specs.Choice.{pick}
+use borrow.Author.Tests.{lt-ltb, le-ltb}
+use borrow.Author.Needs.{needs}
+use Rattle.tau_state.proofs.sums.one_more_32.Statement.{statement}
+use Rattle.tau_state.proofs.sums.one_more_32.Tie as tie
+
+pub one-more-32-spec : {M : Type 1} → statement M
+unfolding oneMore32 pick
+one-more-32-spec =
+    tie.close
+    (tie.spec
+    (λ c. search needs)
+    (λ c. rw (lt-ltb _ _ (c .if1 .taken)))
+    (λ c. rw (le-ltb _ _ (c .if1 .left))))

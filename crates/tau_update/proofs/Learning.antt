@@ -1,0 +1,32 @@
+-- One partition of the update, from its parts' answers in the code's order. Assumes nothing.
+use mathlib.Core.Bool.{Bool, _&&_}
+use mathlib.Core.List.{List}
+use mathlib.Core.Path.{_≡_}
+use Prim.Native.Nat.{ℕ}
+use lib.ListN.{length}
+use lib.Ieee.{Float}
+use Rattle.laws.specs.Parts.{part, withPart}
+use Rattle.fft.specs.Calls.{spectrumOf}
+use Rattle.fft.proofs.Sizes.{length-spectrum}
+use Rattle.tau_spectra.specs.Ring.{slotOf}
+use Rattle.tau_update.specs.Update.{Learnt, gradientOf, constrained, stepped, finiteTo, learntAt}
+
+-- a constrained gradient is a spectrum
+pub length-constrained : (g : List Float) → length (constrained g) ≡ 514
+unfolding constrained spectrumOf
+length-constrained g = length-spectrum _ _ _
+
+-- one partition of the update
+pub learnt-turn : (parts head : ℕ) (xs e rates w : List Float) (good : Bool) (p : ℕ)
+    {slot : ℕ} {x g h y v w' : List Float} {fine : Bool}
+    → slot ≡ slotOf head parts p
+    → x ≡ part 514 slot xs
+    → g ≡ gradientOf x e rates
+    → h ≡ constrained g
+    → y ≡ part 514 p w
+    → v ≡ stepped h y
+    → fine ≡ finiteTo v 514
+    → w' ≡ withPart 514 p w v
+    → _≡_ {A = Learnt} (record { weights = w'; good = good && fine }) (learntAt parts head xs e rates p (record { weights = w; good = good }))
+unfolding learntAt
+learnt-turn parts head xs e rates w good p e1 e2 e3 e4 e5 e6 e7 e8 = rw (e8, e7, e6, e5, e4, e3, e2, e1)

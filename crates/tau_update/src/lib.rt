@@ -1,0 +1,2 @@
+// Step 6 of a Tau block: the update of the shadow.
+pub mod update;
