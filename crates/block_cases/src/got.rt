@@ -1,6 +1,6 @@
 // What a line comes to.
-use tau_block::Blocked;
 use tau_lines::numbers_of;
+use tau_run::Blocked;
 use tau_state::report::leak_of;
 use tau_state::report::number;
 use tau_state::state::TauCanceller;

@@ -145,5 +145,5 @@ fn block(
     if spectra.len() != lent {
         return unknown(state);
     }
-    after(tau_block::run_block(state, near, far, valid, adapt, shadow, output, spectra))
+    after(tau_run::run_block(state, near, far, valid, adapt, shadow, output, spectra))
 }

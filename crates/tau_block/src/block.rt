@@ -1,23 +1,15 @@
-// One block: document 01's nine steps in their order. A condition of a step goes to it as a `bool`, so that nothing branches here.
+// A microphone's part of a block: document 01's steps 2, 3 and 5 to 9. A condition of a step goes to it as a `bool`, so that nothing
+// branches here.
 use tau_filter::filter::Checked;
-use tau_filter::filter::Estimated;
-use tau_filter::filter::Shadowed;
 use tau_filter::filter::output_estimate;
 use tau_filter::filter::shadow_estimate;
-use tau_spectra::far::hear;
-use tau_state::lent::rest_of;
-use tau_state::lent::whole;
 use tau_state::report::Outcome;
 use tau_state::state::DTD_ESTABLISH_BLOCKS;
 use tau_state::state::Detector;
-use tau_state::state::FarRest;
 use tau_state::state::Guard;
-use tau_state::state::Mic;
 use tau_state::state::MicRest;
 use tau_state::state::Paths;
 use tau_state::state::Powers;
-use tau_state::state::Suppressor;
-use tau_state::state::TauCanceller;
 use tau_state::sums::energy;
 use tau_steps::detector::double_talk_block;
 use tau_steps::guard::guard;
@@ -31,40 +23,16 @@ ghost use mathlib.Core.List.{[]};
 ghost use Prim.Native.Nat.{_≤_, _<_, _*_};
 ghost use lib.ListN.{length};
 ghost use Rattle.trig.specs.Tables.{recombination};
-ghost use Rattle.tau_state.specs.Lent.{suppressorOf, farOf, micOf, stateOf};
-ghost use Rattle.tau_filter.specs.Lent.{shadowedOf, estimatedOf};
-ghost use Rattle.tau_block.specs.Lent.{deliveredOf, noSuppressor, bare};
-ghost use Rattle.tau_block.specs.Block.{filtered, compares, delivered, listen, runBlock};
-
-pub struct Filtered {
-    pub shadow: Shadowed,
-    pub output: Estimated,
-}
+ghost use Rattle.tau_state.specs.Lent.{suppressorOf, micOf};
+ghost use Rattle.tau_spectra.specs.Ring.{ringOf};
+ghost use Rattle.tau_filter.specs.Lent.{estimatedOf};
+ghost use Rattle.tau_block.specs.Block.{listen};
+ghost use Rattle.tau_block.specs.Groups.{filtered, compares, delivered};
+ghost use Rattle.tau_block.specs.Lent.{filteredOf, judgementOf, deliveredOf, playingOf, micBlock, microphoneOf, listenedOf, noSuppressor, bare};
 
 pub struct Judged {
     pub detector: Detector,
     pub compared: Compared,
-}
-
-pub struct Delivered {
-    pub suppressor: Suppressor,
-    pub guard: Guard,
-    pub paths: Paths,
-    pub divergence_resets: u64,
-    pub powers: Powers,
-    pub block: [f32; 256],
-}
-
-pub struct Listened {
-    pub mic: Mic,
-    pub block: [f32; 256],
-    pub outcome: Outcome,
-}
-
-pub struct Blocked {
-    pub state: TauCanceller,
-    pub block: [f32; 256],
-    pub outcome: Outcome,
 }
 
 pub struct BothChecked {
@@ -80,12 +48,6 @@ pub struct DeliveredRest {
 }
 
 pub struct ListenedRest {
-    pub mic: MicRest,
-    pub outcome: Outcome,
-}
-
-pub struct BlockedRest {
-    pub far: FarRest,
     pub mic: MicRest,
     pub outcome: Outcome,
 }
@@ -112,7 +74,7 @@ fn filter(
 ) -> BothChecked
     requires { ⌜ now table ≡ recombination ⌝ }
     requires { ⌜ (length (now shadow) ≡ 514 * parts) × (length (now output) ≡ 514 * parts) × (length (now spectra) ≡ 514 * parts) × (head < parts) × (parts ≤ 32) ⌝ }
-    ensures { λ r. ⌜ record { answer = record { shadow = shadowedOf (r .shadow) (now (estimate .exit)) (now («shadow_error» .exit)); output = estimatedOf (r .output) (suppressorOf (now («echo_power» .exit)) (now («error_power» .exit)) (now (gain .exit)) (now (window .entry))) (now (bins .exit)) (now (block .exit)) }; shadow = now (shadow .exit); output = now (output .exit) } ≡ filtered parts head (now (spectra .entry)) (now (near .entry)) (micOf mic [] (suppressorOf (now («echo_power» .entry)) (now («error_power» .entry)) (now (gain .entry)) (now (window .entry)))) (now (shadow .entry)) (now (output .entry)) ⌝ }
+    ensures { λ r. ⌜ filteredOf (r .shadow .diverged) (r .output) (now (estimate .exit)) (now («shadow_error» .exit)) (suppressorOf (now («echo_power» .exit)) (now («error_power» .exit)) (now (gain .exit)) (now (window .entry))) (now (bins .exit)) (now (block .exit)) (now (shadow .exit)) (now (output .exit)) ≡ filtered (ringOf parts head (now (spectra .entry))) (now (near .entry)) (micOf mic [] (suppressorOf (now («echo_power» .entry)) (now («error_power» .entry)) (now (gain .entry)) (now (window .entry)))) (now (shadow .entry)) (now (output .entry)) ⌝ }
 {
     let paths = mic.paths;
     let resets = mic.divergence_resets;
@@ -173,7 +135,7 @@ fn judge(
 ) -> Judged
     requires { ⌜ valid ≤ 256 ⌝ }
     requires { ⌜ length (now shadow) ≡ length (now output) ⌝ }
-    ensures { λ r. ⌜ record { answer = r; shadow = now (shadow .exit); output = now (output .exit) } ≡ compares adapt active (now (near .entry)) «near_energy» valid (record { shadow = shadowedOf (checked .shadow) (now (estimate .entry)) (now («shadow_error» .entry)); output = estimatedOf (checked .output) noSuppressor [] (now (error .entry)) }) (bare mic) (now (shadow .entry)) (now (output .entry)) ⌝ }
+    ensures { λ r. ⌜ judgementOf r (now (shadow .exit)) (now (output .exit)) ≡ compares adapt active (now (near .entry)) «near_energy» valid (filteredOf (checked .shadow .diverged) (checked .output) (now (estimate .entry)) (now («shadow_error» .entry)) noSuppressor [] (now (error .entry)) (now (shadow .entry)) (now (output .entry))) (bare mic) ⌝ }
 {
     let output_checked = checked.output;
     let detector = double_talk_block(mic.detector, active, near_energy, near, estimate, valid);
@@ -219,7 +181,7 @@ fn deliver(
 ) -> DeliveredRest
     requires { ⌜ now table ≡ recombination ⌝ }
     requires { ⌜ valid ≤ 256 ⌝ }
-    ensures { λ r. ⌜ record { answer = deliveredOf r (suppressorOf (now («echo_power» .exit)) (now («error_power» .exit)) (now (gain .exit)) (now (window .exit))) (now (block .exit)); buffer = now (output .exit) } ≡ delivered on protect (now (near .entry)) «near_energy» valid (estimatedOf checked (suppressorOf (now («echo_power» .entry)) (now («error_power» .entry)) (now (gain .entry)) (now (window .entry))) (now (bins .entry)) (now (block .entry))) (bare mic) paths resets (now (output .entry)) ⌝ }
+    ensures { λ r. ⌜ deliveredOf r (suppressorOf (now («echo_power» .exit)) (now («error_power» .exit)) (now (gain .exit)) (now (window .exit))) (now (block .exit)) (now (output .exit)) ≡ delivered on protect (now (near .entry)) «near_energy» valid (estimatedOf checked (suppressorOf (now («echo_power» .entry)) (now («error_power» .entry)) (now (gain .entry)) (now (window .entry))) (now (bins .entry)) (now (block .entry)) [] []) (bare mic) paths resets (now (output .entry)) ⌝ }
 {
     suppress(
         table,
@@ -260,7 +222,7 @@ fn deliver(
 }
 
 // A microphone on what was heard: steps 2, 3 and 5 to 9.
-fn run_mic(
+pub fn run_mic(
     table: &[f64; 514],
     scratch: &mut [f64; 1024],
     parts: usize,
@@ -284,7 +246,7 @@ fn run_mic(
 ) -> ListenedRest
     requires { ⌜ now table ≡ recombination ⌝ }
     requires { ⌜ (length (now shadow) ≡ 514 * parts) × (length (now output) ≡ 514 * parts) × (length (now spectra) ≡ 514 * parts) × (head < parts) × (parts ≤ 32) × (valid ≤ 256) ⌝ }
-    ensures { λ r. ⌜ record { answer = record { mic = micOf (r .mic) (now (means .exit)) (suppressorOf (now («echo_power» .exit)) (now («error_power» .exit)) (now (gain .exit)) (now (window .exit))); block = now (block .exit); outcome = r .outcome }; shadow = now (shadow .exit); output = now (output .exit) } ≡ listen parts flag head sounded active (now (spectra .entry)) (now (near .entry)) valid adapt (micOf mic (now (means .entry)) (suppressorOf (now («echo_power» .entry)) (now («error_power» .entry)) (now (gain .entry)) (now (window .entry)))) (now (shadow .entry)) (now (output .entry)) ⌝ }
+    ensures { λ r. ⌜ listenedOf r (now (means .exit)) (suppressorOf (now («echo_power» .exit)) (now («error_power» .exit)) (now (gain .exit)) (now (window .exit))) (now (block .exit)) (now (shadow .exit)) (now (output .exit)) ≡ listen flag (playingOf parts head sounded active (now (spectra .entry))) (micBlock (now (near .entry)) valid adapt) (microphoneOf mic (now (means .entry)) (suppressorOf (now («echo_power» .entry)) (now («error_power» .entry)) (now (gain .entry)) (now (window .entry))) (now (shadow .entry)) (now (output .entry))) ⌝ }
 {
     let mut bins = [0.0f64; 514];
     let mut estimate = [0.0f32; 256];
@@ -382,144 +344,6 @@ fn run_mic(
             transfers: compared.transfers,
             divergence_resets: delivered.divergence_resets,
         },
-        outcome,
-    }
-}
-
-// The table and the scratch are made once and lent to every transform of the block.
-pub fn run_lent(
-    partitions: usize,
-    flag: bool,
-    rest: FarRest,
-    mic: MicRest,
-    near: &[f32; 256],
-    far: &[f32; 256],
-    valid: usize,
-    adapt: bool,
-    far_window: &mut [f32; 512],
-    means: &mut [f64; 257],
-    echo_power: &mut [f64; 257],
-    error_power: &mut [f64; 257],
-    gain: &mut [f64; 257],
-    window: &mut [f32; 512],
-    block: &mut [f32; 256],
-    shadow: &mut [f64],
-    output: &mut [f64],
-    spectra: &mut [f64],
-) -> BlockedRest
-    requires { ⌜ (length (now shadow) ≡ 514 * partitions) × (length (now output) ≡ 514 * partitions) × (length (now spectra) ≡ 514 * partitions) ⌝ }
-    requires { ⌜ (rest .head < partitions) × (partitions ≤ 32) × (valid ≤ 256) ⌝ }
-    ensures { λ r. ⌜ record { answer = record { state = stateOf partitions flag 0 [] [] (farOf (r .far) (now («far_window» .exit))) (micOf (r .mic) (now (means .exit)) (suppressorOf (now («echo_power» .exit)) (now («error_power» .exit)) (now (gain .exit)) (now (window .exit)))); block = now (block .exit); outcome = r .outcome }; shadow = now (shadow .exit); output = now (output .exit); spectra = now (spectra .exit) } ≡ runBlock (stateOf partitions flag 0 [] [] (farOf rest (now («far_window» .entry))) (micOf mic (now (means .entry)) (suppressorOf (now («echo_power» .entry)) (now («error_power» .entry)) (now (gain .entry)) (now (window .entry))))) (now (near .entry)) (now (far .entry)) valid adapt (now (shadow .entry)) (now (output .entry)) (now (spectra .entry)) ⌝ }
-{
-    let table = trig::recombination();
-    let mut scratch = [0.0f64; 1024];
-    let heard = hear(
-        &table,
-        &mut scratch,
-        partitions,
-        rest,
-        far_window,
-        far,
-        spectra,
-    );
-    let far_left = heard.far;
-    let active = heard.far_is_active;
-    let sounded = far_left.far_active;
-    let listened = run_mic(
-        &table,
-        &mut scratch,
-        partitions,
-        flag,
-        far_left.head,
-        sounded,
-        active,
-        spectra,
-        near,
-        valid,
-        adapt,
-        mic,
-        means,
-        echo_power,
-        error_power,
-        gain,
-        window,
-        block,
-        shadow,
-        output,
-    );
-    let mic = listened.mic;
-    let outcome = listened.outcome;
-    BlockedRest {
-        far: far_left,
-        mic,
-        outcome,
-    }
-}
-
-pub fn run_block(
-    s: TauCanceller,
-    near: [f32; 256],
-    far: [f32; 256],
-    valid: usize,
-    adapt: bool,
-    shadow: &mut [f64],
-    output: &mut [f64],
-    spectra: &mut [f64],
-) -> Blocked
-    requires { ⌜ (length (now shadow) ≡ 514 * s .partitions) × (length (now output) ≡ 514 * s .partitions) × (length (now spectra) ≡ 514 * s .partitions) ⌝ }
-    requires { ⌜ (s .far .head < s .partitions) × (s .partitions ≤ 32) × (valid ≤ 256) ⌝ }
-    ensures { λ r. ⌜ record { answer = r; shadow = now (shadow .exit); output = now (output .exit); spectra = now (spectra .exit) } ≡ runBlock s near far valid adapt (now (shadow .entry)) (now (output .entry)) (now (spectra .entry)) ⌝ }
-{
-    let mut far_window = s.far.window;
-    let mut means = s.mic.far_power_mean;
-    let mut echo = s.mic.suppressor.echo_power;
-    let mut err = s.mic.suppressor.error_power;
-    let mut gain = s.mic.suppressor.gain;
-    let mut window = s.mic.suppressor.error_window;
-    let mut block = [0.0f32; 256];
-    let mut rest = rest_of(s);
-    let ran = run_lent(
-        rest.partitions,
-        rest.suppress,
-        rest.far,
-        rest.mic,
-        &near,
-        &far,
-        valid,
-        adapt,
-        &mut far_window,
-        &mut means,
-        &mut echo,
-        &mut err,
-        &mut gain,
-        &mut window,
-        &mut block,
-        shadow,
-        output,
-        spectra,
-    );
-    let heard = ran.far;
-    let mic = ran.mic;
-    let outcome = ran.outcome;
-    rest.far = heard;
-    rest.mic = mic;
-    let near_carry = s.near_carry;
-    let far_carry = s.far_carry;
-    let state = whole(
-        s,
-        rest,
-        near_carry,
-        far_carry,
-        far_window,
-        means,
-        echo,
-        err,
-        gain,
-        window,
-    );
-    Blocked {
-        state,
-        block,
         outcome,
     }
 }

@@ -25,7 +25,7 @@ use Rattle.numbers.proofs.Ordered.{total, max-right, clamp-low, clamp-high}
 use Rattle.numbers.proofs.Ranged.{unit-mul, unit-min, power-square, power-add, power-div, number-div}
 use Rattle.numbers.proofs.Tests.{round-no-nan}
 use Rattle.complex.specs.Complexes.{getC}
-use Rattle.tau_state.specs.Constants.{zero64, one, f0-0003, f0-02, f0-1}
+use Rattle.tau_state.specs.Constants.{zero64, one, f0·0003, f0·02, f0·1}
 use Rattle.tau_spectra.specs.Bins.{powerAt}
 use Rattle.tau_update.specs.Update.{farPowerTo, factorOf}
 use Rattle.tau_suppressor.specs.Suppressor.{targetOf}
@@ -42,21 +42,21 @@ lt-above (fin false m e) h = lt→ltb 0 m (first-pos m (up e) (rw (zero-mul, mul
 -- ---- the step factor
 
 -- a number between 0 and 1, held to 0.02 or more
-raised : {x : Float} → Unit x → T (le (maxOf x f0-02) one)
+raised : {x : Float} → Unit x → T (le (maxOf x f0·02) one)
 unfolding maxOf le ofBits
-raised {x} u = pick-if (λ r. T (le r one)) (isNan x) (λ _. tt) (λ _. pick-if (λ r. T (le r one)) (lt x f0-02) (λ _. tt) (λ _. u .high))
+raised {x} u = pick-if (λ r. T (le r one)) (isNan x) (λ _. tt) (λ _. pick-if (λ r. T (le r one)) (lt x f0·02) (λ _. tt) (λ _. u .high))
 
 -- from 0.02 to 1
 pub record Factor (r : Float) : Type 0 where
-  pub low : T (le f0-02 r)
+  pub low : T (le f0·02 r)
   pub high : T (le r one)
 
 -- 0.02 or more of any numbers,
-pub factor-low : (mean power : Float) → T (le f0-02 (factorOf mean power))
+pub factor-low : (mean power : Float) → T (le f0·02 (factorOf mean power))
 unfolding factorOf le ofBits isNan
 factor-low mean power =
     let share = minOf (div binary64 power mean) one in
-    pick-if (λ r. T (le f0-02 r)) (lt zero64 mean) (λ _. max-right (mul binary64 share share) f0-02 tt) (λ _. tt)
+    pick-if (λ r. T (le f0·02 r)) (lt zero64 mean) (λ _. max-right (mul binary64 share share) f0·02 tt) (λ _. tt)
 
 -- and at most 1 of a power that is not below 0, or a NaN. (Of the power -2.0 and the mean 1.0 it is 4.0.)
 pub factor-bounds : (mean power : Float) → Power power → Factor (factorOf mean power)
@@ -88,7 +88,7 @@ step-factor xs means parts k =
 
 -- from 0.1 to 1
 pub record Target (r : Float) : Type 0 where
-  pub low : T (le f0-1 r)
+  pub low : T (le f0·1 r)
   pub high : T (le r one)
 
 one-target : Target one
@@ -98,9 +98,9 @@ one-target = record { low = tt; high = tt }
 number : (x : Float) → isNan x ≡ false → T (not (isNan x))
 number x n = subst (λ (b : Bool). T (not b)) (sym n) tt
 
-clamped : (x : Float) → isNan x ≡ false → Target (clampOf x f0-1 one)
+clamped : (x : Float) → isNan x ≡ false → Target (clampOf x f0·1 one)
 unfolding le ofBits isNan
-clamped x n = record { low = clamp-low x f0-1 one (number x n) tt tt tt; high = clamp-high x f0-1 one (number x n) tt tt tt }
+clamped x n = record { low = clamp-low x f0·1 one (number x n) tt tt tt; high = clamp-high x f0·1 one (number x n) tt tt tt }
 
 -- a sum of two finite numbers
 sum-number : (s : Bool) (a : ℕ) (t : Bool) (b c : ℕ) → isNan (sum binary64 s a t b c) ≡ false
@@ -144,8 +144,8 @@ above-rest x n h = go (lt zero64 x) refl
 pub target-bounds : (protect : Bool) (echo err : Float) → Finite err → isNan echo ≡ false → Target (targetOf protect echo err)
 unfolding targetOf
 target-bounds protect echo err h k =
-    let s = add binary64 err (mul binary64 f0-0003 echo) in
-    let n : isNan s ≡ false = number-add err (mul binary64 f0-0003 echo) h (number-mul f0-0003 echo (unfold ofBits in tt) k) in
+    let s = add binary64 err (mul binary64 f0·0003 echo) in
+    let n : isNan s ≡ false = number-add err (mul binary64 f0·0003 echo) h (number-mul f0·0003 echo (unfold ofBits in tt) k) in
     pick-if Target protect (λ _. one-target)
     (λ _. pick-if Target (le s zero64) (λ _. one-target)
     (λ l. clamped (div binary64 err s) (number-div binary64 s h (above-rest s (number s n) l))))

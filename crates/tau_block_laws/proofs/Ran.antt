@@ -7,17 +7,13 @@ use Prim.Native.Nat.{ℕ}
 use lib.Dec.{ltb, leb}
 use lib.Ieee.{Float, lt, le}
 use Rattle.laws.specs.Choice.{pick-if}
-use Rattle.tau_state.specs.Constants.{zero64, f0-1}
-use Rattle.tau_state.specs.After.{WroteBoth}
-use Rattle.tau_steps.specs.Paths.{advantageOf, verdict, counted, acted, compared}
+use Rattle.tau_state.specs.Constants.{zero64, f0·1}
 use Rattle.tau_state.specs.declared.state.TauCanceller.{TauCanceller}
-use Rattle.tau_state.specs.declared.state.Mic.{Mic}
 use Rattle.tau_state.specs.declared.state.Paths.{Paths}
 use Rattle.tau_state.specs.declared.report.Outcome.{Outcome}
 use Rattle.tau_state.specs.declared.report.Outcome.the-variants.{NoMove, Rescue, Move}
-use Rattle.tau_steps.specs.declared.paths.Compared.{Compared}
-use Rattle.tau_block.specs.Block.{compares, listen, runBlock}
-use Rattle.tau_block.specs.declared.block.Filtered.{Filtered}
+use Rattle.tau_steps.specs.Paths.{Comparison, advantageOf, verdict, counted, acted, compared}
+use Rattle.tau_block.specs.Block.{Block, Playing, Microphone, Engine, listen, runBlock}
 
 module _ (Q : Outcome → Type 0) (none : Q NoMove) (rescue : Q Rescue) (move : (leak : Float) → Q (Move leak)) where
   decided : (q : Paths) → Q (verdict q)
@@ -25,26 +21,21 @@ module _ (Q : Outcome → Type 0) (none : Q NoMove) (rescue : Q Rescue) (move : 
   decided q =
       pick-if Q (leb 8 (q .«rescue_streak»)) (λ _. rescue)
       (λ _. pick-if Q (ltb (q .«quiet_streak») 6) (λ _. none)
-      (λ _. pick-if Q (lt zero64 (q .«output_error_power»)) (λ _. pick-if Q (le f0-1 (advantageOf q)) (λ _. move _) (λ _. none)) (λ _. none)))
+      (λ _. pick-if Q (lt zero64 (q .«output_error_power»)) (λ _. pick-if Q (le f0·1 (advantageOf q)) (λ _. move _) (λ _. none)) (λ _. none)))
 
-  compared-outcome : (on quiet : Bool) (es eo : List Float) (v : ℕ) (p : Paths) (n : ℕ) (sh ou : List Float) → Q (compared on quiet es eo v p n sh ou .answer .outcome)
+  compared-outcome : (runs quiet : Bool) (es eo : List Float) (n : ℕ) (p : Paths) (transfers : ℕ) (sh ou : List Float)
+      → Q (compared runs quiet es eo n p transfers sh ou .outcome)
   unfolding compared acted
-  compared-outcome on quiet es eo v p n sh ou = pick-if (λ (r : WroteBoth Compared). Q (r .answer .outcome)) on (λ _. decided _) (λ _. none)
+  compared-outcome runs quiet es eo n p transfers sh ou = pick-if (λ (r : Comparison). Q (r .outcome)) runs (λ _. decided _) (λ _. none)
 
-  compares-outcome : (adapt active : Bool) (near : List Float) (energy : Float) (n : ℕ) (f : Filtered) (m : Mic) (sh ou : List Float)
-      → Q (compares adapt active near energy n f m sh ou .answer .compared .outcome)
-  unfolding compares
-  compares-outcome adapt active near energy n f m sh ou = compared-outcome _ _ (f .shadow .error) (f .output .error) n (f .output .paths) (m .transfers) sh ou
-
-  listen-outcome : (parts : ℕ) (flag : Bool) (head : ℕ) (sounded active : Bool) (xs near : List Float) (n : ℕ) (adapt : Bool) (m : Mic) (sh ou : List Float)
-      → Q (listen parts flag head sounded active xs near n adapt m sh ou .answer .outcome)
+  listen-outcome : (flagged : Bool) (playing : Playing) (b : Block) (m : Microphone) → Q (listen flagged playing b m .outcome)
   unfolding listen
-  listen-outcome parts flag head sounded active xs near n adapt m sh ou = compares-outcome adapt active near _ n _ m _ _
+  listen-outcome flagged playing b m = compared-outcome _ _ _ _ (b .valid) _ (m .mic .transfers) _ _
 
   -- What holds of the three cases holds of a block's outcome.
-  pub ran-outcome : (s : TauCanceller) (near far : List Float) (n : ℕ) (adapt : Bool) (sh ou xs : List Float) → Q (runBlock s near far n adapt sh ou xs .answer .outcome)
+  pub ran-outcome : (e : Engine) (far : List Float) (b : Block) → Q (runBlock e far b .outcome)
   unfolding runBlock
-  ran-outcome s near far n adapt sh ou xs = listen-outcome (s .partitions) (s .suppress) _ _ _ _ near n adapt (s .mic) sh ou
+  ran-outcome e far b = listen-outcome (e .state .suppress) _ b _
 
 -- What a block hands on.
 pub record Handed (s t : TauCanceller) : Type 0 where
@@ -54,18 +45,18 @@ pub record Handed (s t : TauCanceller) : Type 0 where
   pub near : t .«near_carry» ≡ s .«near_carry»
   pub far : t .«far_carry» ≡ s .«far_carry»
 
-pub ran-handed : (s : TauCanceller) (near far : List Float) (n : ℕ) (adapt : Bool) (sh ou xs : List Float) → Handed s (runBlock s near far n adapt sh ou xs .answer .state)
+pub ran-handed : (e : Engine) (far : List Float) (b : Block) → Handed (e .state) (runBlock e far b .engine .state)
 unfolding runBlock
-ran-handed s near far n adapt sh ou xs = record { parts = refl; flag = refl; carried = refl; near = refl; far = refl }
+ran-handed e far b = record { parts = refl; flag = refl; carried = refl; near = refl; far = refl }
 
 -- The counter of transfers goes by the outcome: one more after a move, and else as it was.
-compared-transfers : (on quiet : Bool) (es eo : List Float) (v : ℕ) (p : Paths) (n : ℕ) (sh ou : List Float)
-    → compared on quiet es eo v p n sh ou .answer .transfers ≡ counted (compared on quiet es eo v p n sh ou .answer .outcome) n
+compared-transfers : (runs quiet : Bool) (es eo : List Float) (n : ℕ) (p : Paths) (transfers : ℕ) (sh ou : List Float)
+    → compared runs quiet es eo n p transfers sh ou .transfers ≡ counted (compared runs quiet es eo n p transfers sh ou .outcome) transfers
 unfolding compared acted
-compared-transfers on quiet es eo v p n sh ou =
-    pick-if (λ (r : WroteBoth Compared). r .answer .transfers ≡ counted (r .answer .outcome) n) on (λ _. refl) (λ _. refl)
+compared-transfers runs quiet es eo n p transfers sh ou =
+    pick-if (λ (r : Comparison). r .transfers ≡ counted (r .outcome) transfers) runs (λ _. refl) (λ _. refl)
 
-pub ran-transfers : (s : TauCanceller) (near far : List Float) (n : ℕ) (adapt : Bool) (sh ou xs : List Float)
-    → runBlock s near far n adapt sh ou xs .answer .state .mic .transfers ≡ counted (runBlock s near far n adapt sh ou xs .answer .outcome) (s .mic .transfers)
-unfolding runBlock listen compares
-ran-transfers s near far n adapt sh ou xs = compared-transfers _ _ _ _ n _ (s .mic .transfers) _ _
+pub ran-transfers : (e : Engine) (far : List Float) (b : Block)
+    → runBlock e far b .engine .state .mic .transfers ≡ counted (runBlock e far b .outcome) (e .state .mic .transfers)
+unfolding runBlock listen
+ran-transfers e far b = compared-transfers _ _ _ _ (b .valid) _ (e .state .mic .transfers) _ _

@@ -2,8 +2,7 @@
 -- The detector, the powers, the gains, the streaks, the guard, the means and the error window may hold anything. Assumes nothing.
 --     cleared-silent    no far sound yet, and cleared buffers: silent
 --     block-passed      of n valid samples the first n places are near's, -0.0 as -0.0, and the state and the buffers are silent again
---     whole-passed      of 256 the block is near
-use mathlib.Core.Path.{_≡_, refl, sym, ap, _∙_}
+use mathlib.Core.Path.{_≡_, refl, sym, ap, _∙_, subst}
 use mathlib.Core.Bool.{Bool, true, false, not, _&&_, _||_, true≢false}
 use mathlib.Core.List.{List, _++_}
 use mathlib.Core.Logic.{inl, inr}
@@ -26,36 +25,29 @@ use Rattle.numbers.proofs.Values.{sub-zero}
 use Rattle.numbers.proofs.Zeros.{faints, pluses, plus-zero, plus-add, plus-mul, plus-blank, plus-faint, zero-faint, zero-finite, zero-ne, zero-square, finite-true}
 use Rattle.fft.specs.Calls.{samplesOf}
 use Rattle.fft.proofs.Silence.{silent-spectrum, silent-samples, faint-spectrum, faint-samples}
-use Rattle.tau_state.specs.After.{Wrote, WroteBoth}
 use Rattle.tau_steps.specs.Clears.{divergeShadow, retireOutput}
-use Rattle.tau_state.specs.Constants.{zero32, zero64, f0-5}
-use Rattle.tau_steps.specs.Guard.{replaced, guarded}
-use Rattle.tau_steps.specs.Paths.{shadowAfter, outputAfter, acted, compared}
+use Rattle.tau_state.specs.Constants.{zero32, zero64, f0·5}
+use Rattle.tau_steps.specs.Guard.{Guarded, replaced, guarded}
+use Rattle.tau_steps.specs.Paths.{Comparison, shadowAfter, outputAfter, acted, compared}
 use Rattle.tau_state.specs.Sums.{energyOf}
 use Rattle.tau_steps.specs.Weights.{cleared, halved}
-use Rattle.tau_steps.specs.declared.guard.Guarded.{Guarded}
-use Rattle.tau_steps.specs.declared.paths.Compared.{Compared}
 use Rattle.tau_state.specs.declared.state.Guard.{Guard}
 use Rattle.tau_state.specs.declared.state.Mic.{Mic}
 use Rattle.tau_state.specs.declared.state.Paths.{Paths}
 use Rattle.tau_state.specs.declared.state.Suppressor.{Suppressor}
 use Rattle.tau_state.specs.declared.state.TauCanceller.{TauCanceller}
-use Rattle.tau_block.specs.Block.{filtered, compares, delivered, listen, runBlock}
+use Rattle.tau_block.specs.Block.{Block, Playing, Microphone, Listened, Engine, listen, runBlock}
+use Rattle.tau_block.specs.Groups.{Filtered, filtered, compares, delivered, grouped}
+use Rattle.tau_block.proofs.Composed.{listen-grouped}
 use Rattle.tau_spectra.specs.Windows.{slid}
-use Rattle.tau_spectra.specs.Ring.{nextSlot}
-use Rattle.tau_spectra.specs.Far.{sounds, peakOf, drives, hearFar}
+use Rattle.tau_spectra.specs.Ring.{Ring, nextSlot, slotOf, metBy}
+use Rattle.tau_spectra.specs.Far.{sounds, energyPeak, drives, Heard, hearFar}
 use Rattle.tau_spectra.specs.Windows.{latter}
-use Rattle.tau_spectra.specs.Ring.{slotOf}
-use Rattle.tau_filter.specs.Filter.{added, echoTo, echoOf, errorAt, errorsOf, badTo, shadowed, estimated}
+use Rattle.tau_spectra.specs.Ring.{Ring, nextSlot, slotOf, metBy}
+use Rattle.tau_filter.specs.Filter.{Shadowed, Estimated, added, echoTo, echoOf, estimateOf, errorAt, errorsOf, badTo, shadowed, estimated}
 use Rattle.tau_block_laws.specs.Silence.{Near, Silent, Passed}
-use Rattle.tau_suppressor.specs.Suppressor.{suppressed}
-use Rattle.tau_update.specs.Update.{gradientAt, gradientOf, constrained, stepped, finiteTo, Learnt, learntAt, learntTo, verdictOn, updated}
-use Rattle.tau_block.specs.declared.block.Filtered.{Filtered}
-use Rattle.tau_spectra.specs.declared.far.Heard.{Heard}
-use Rattle.tau_filter.specs.declared.filter.Estimated.{Estimated}
-use Rattle.tau_filter.specs.declared.filter.Shadowed.{Shadowed}
-use Rattle.tau_suppressor.specs.declared.suppressor.Suppressed.{Suppressed}
-use Rattle.tau_update.specs.declared.update.Updated.{Updated}
+use Rattle.tau_suppressor.specs.Suppressor.{Suppressed, suppressed}
+use Rattle.tau_update.specs.Update.{gradientAt, gradientOf, constrained, stepped, finiteTo, Learnt, Updated, learntAt, learntTo, learntBy, updated}
 use Rattle.tau_block_laws.proofs.Kept.{next-slot, learnt-lengths, length-block}
 
 -- ---- small things
@@ -130,8 +122,8 @@ energy-none {b} h =
     iter-keeps Plus (λ k a. add binary64 a (mul binary64 (getD b k nan) (getD b k nan))) zero64 256 plus64
     (λ k a i p. plus-add binary64 p (plus-zero (zero-square binary64 (all-get k nan (h .all) (omega (arith, h .long))))))
 
-peak-none : {peak e : Float} → Plus peak → Plus e → Plus (peakOf peak e)
-unfolding peakOf
+peak-none : {peak e : Float} → Plus peak → Plus e → Plus (energyPeak peak e)
+unfolding energyPeak
 peak-none {peak} {e} p q = pick-if Plus (lt peak e) (λ _. q) (λ _. p)
 
 -- and so no activity
@@ -143,20 +135,20 @@ drives-not : (peak e : Float) → peak ≡ zero64 → drives peak e ≡ false
 drives-not peak e h = not-l (lt zero64 peak) _ (ap (lt zero64) h ∙ below-none)
 
 -- what is heard: nothing
-record Hushed (parts : ℕ) (h : Wrote Heard) : Type 0 where
-  ring : h .answer .far .head < parts
-  still : h .answer .far .«far_active» ≡ false
-  peak : h .answer .far .«far_energy_peak» ≡ zero64
-  window : Kept Zero 512 (h .answer .far .window)
-  spectra : Kept Zero (514 * parts) (h .buffer)
-  quiet : h .answer .«far_is_active» ≡ false
+record Hushed (parts : ℕ) (h : Heard) : Type 0 where
+  ring : h .far .head < parts
+  still : h .far .«far_active» ≡ false
+  peak : h .far .«far_energy_peak» ≡ zero64
+  window : Kept Zero 512 (h .far .window)
+  spectra : Kept Zero (514 * parts) (h .spectra)
+  quiet : h .active ≡ false
 
 heard-hushed : {s : TauCanceller} {far sh ou xs : List Float} → Silent s sh ou xs → Kept Zero 256 far → Hushed (s .partitions) (hearFar (s .partitions) (s .far) far xs)
 unfolding hearFar
 heard-hushed {s} {far} {sh} {ou} {xs} S F =
     let w = window-zero (S .window) F in
     let r = next-slot (s .partitions) (s .far .head) (S .ring) in
-    let p : peakOf (s .far .«far_energy_peak») (energyOf far 256) ≡ zero64 =
+    let p : energyPeak (s .far .«far_energy_peak») (energyOf far 256) ≡ zero64 =
     peak-none (record { is = S .peak ∙ zero64-is }) (energy-none F) .is ∙ sym zero64-is in
     record {
       ring = r;
@@ -164,7 +156,7 @@ heard-hushed {s} {far} {sh} {ou} {xs} S F =
       peak = p;
       window = w;
       spectra = with-keeps (nextSlot (s .partitions) (s .far .head)) r (S .spectra) (silent-spectrum (slid (s .far .window) far) w);
-      quiet = drives-not (peakOf (s .far .«far_energy_peak») (energyOf far 256)) (energyOf far 256) p;
+      quiet = drives-not (energyPeak (s .far .«far_energy_peak») (energyOf far 256)) (energyOf far 256) p;
     }
 
 -- ---- the estimate of weights +0.0 is +0.0
@@ -188,17 +180,19 @@ unfolding slotOf
 slot-small head parts p h = mod-lt (head + parts - p) h
 
 -- all partitions'
-echo-plus : {ws xs : List Float} (head parts : ℕ) → 0 < parts → Kept Plus (514 * parts) ws → Kept Zero (514 * parts) xs → Kept Plus 514 (echoOf ws xs head parts)
+echo-plus : {ws : List Float} (ring : Ring) → 0 < ring .partitions → Kept Plus (514 * ring .partitions) ws → Kept Zero (514 * ring .partitions) (ring .spectra)
+    → Kept Plus 514 (echoOf ws ring)
 unfolding echoTo
-echo-plus {ws} {xs} head parts b W X =
-    iter-keeps (Kept Plus 514) (λ p a. added (part 514 p ws) (part 514 (slotOf head parts p) xs) 257 a) (replicate 514 zero64) parts (plus-replicate 514)
-    (λ p a k h. added-plus (part-keeps p k W) (part-keeps (slotOf head parts p) (slot-small head parts p b) X) h)
+echo-plus {ws} ring b W X =
+    let slot = slotOf (ring .head) (ring .partitions) in
+    iter-keeps (Kept Plus 514) (λ p a. added (part 514 p ws) (metBy ring p) 257 a) (replicate 514 zero64) (ring .partitions) (plus-replicate 514)
+    (λ p a k h. added-plus (part-keeps p k W) (part-keeps (slot p) (slot-small (ring .head) (ring .partitions) p b) X) h)
 
 -- the samples of that
-estimate-is : {ws xs : List Float} (head parts : ℕ) → 0 < parts → Kept Plus (514 * parts) ws → Kept Zero (514 * parts) xs
-    → latter (samplesOf (echoOf ws xs head parts)) ≡ replicate 256 plus
+estimate-is : {ws : List Float} (ring : Ring) → 0 < ring .partitions → Kept Plus (514 * ring .partitions) ws → Kept Zero (514 * ring .partitions) (ring .spectra)
+    → estimateOf ws ring ≡ replicate 256 plus
 unfolding latter
-estimate-is {ws} {xs} head parts b W X = ap (drop 256) (silent-samples (echoOf ws xs head parts) (echo-plus head parts b W X))
+estimate-is {ws} ring b W X = ap (drop 256) (silent-samples (echoOf ws ring) (echo-plus ring b W X))
 
 -- ---- so the error is near
 
@@ -227,18 +221,18 @@ cleared-plus : {n : ℕ} {l : List Float} → Kept Plus n l → Kept Plus n (cle
 unfolding cleared
 cleared-plus {n} {l} h = rw (h .long) (plus-replicate n)
 
-half-is : f0-5 ≡ fin false 1 (negsuc 0)
+half-is : f0·5 ≡ fin false 1 (negsuc 0)
 unfolding ofBits
 half-is = refl
 
 halved-plus : {n : ℕ} {l : List Float} → Kept Plus n l → Kept Plus n (halved l)
 unfolding halved
 halved-plus {n} {l} h = record {
-  long = length-map l (λ x. mul binary64 x f0-5) ∙ h .long;
-  all = all-map (λ x. mul binary64 x f0-5) (λ x p. plus-mul binary64 f0-5 1 (negsuc 0) half-is p) (h .all);
+  long = length-map l (λ x. mul binary64 x f0·5) ∙ h .long;
+  all = all-map (λ x. mul binary64 x f0·5) (λ x p. plus-mul binary64 f0·5 1 (negsuc 0) half-is p) (h .all);
 }
 
-diverge-shadow-plus : {n : ℕ} {sh : List Float} (p : Paths) (m : ℕ) → Kept Plus n sh → Kept Plus n (divergeShadow p m sh .buffer)
+diverge-shadow-plus : {n : ℕ} {sh : List Float} (p : Paths) (m : ℕ) → Kept Plus n sh → Kept Plus n (divergeShadow p m sh .shadow)
 unfolding divergeShadow
 diverge-shadow-plus p m h = cleared-plus h
 
@@ -247,7 +241,7 @@ record Both (n : ℕ) (sh ou : List Float) : Type 0 where
   shadow : Kept Plus n sh
   output : Kept Plus n ou
 
-retire-plus : {n : ℕ} {ou : List Float} (x : Float) (p : Paths) (u : Suppressor) (m : ℕ) → Kept Plus n ou → Kept Plus n (retireOutput x p u m ou .buffer)
+retire-plus : {n : ℕ} {ou : List Float} (x : Float) (p : Paths) (u : Suppressor) (m : ℕ) → Kept Plus n ou → Kept Plus n (retireOutput x p u m ou .output)
 unfolding retireOutput
 retire-plus x p u m h = halved-plus h
 
@@ -305,89 +299,84 @@ stepped-blank {g} {w} G W = record {
 
 -- while every weight has been finite, every weight is +0.0
 record Going (parts : ℕ) (l : Learnt) : Type 0 where
-  still : l .good ≡ true → Kept Plus (514 * parts) (l .weights)
+  still : l .finite ≡ true → Kept Plus (514 * parts) (l .weights)
 
-learnt-going : {xs : List Float} (parts head : ℕ) (e rates : List Float) (p : ℕ) (l : Learnt) → p < parts → Kept Zero (514 * parts) xs → Going parts l
-    → Going parts (learntAt parts head xs e rates p l)
+learnt-going : (ring : Ring) (e rates : List Float) (p : ℕ) (l : Learnt) → p < ring .partitions → Kept Zero (514 * ring .partitions) (ring .spectra)
+    → Going (ring .partitions) l → Going (ring .partitions) (learntAt ring e rates p l)
 unfolding learntAt
-learnt-going {xs} parts head e rates p l b X h =
-    let g = constrained (gradientOf (part 514 (slotOf head parts p) xs) e rates) in
+learnt-going ring e rates p l b X h =
+    let slot = slotOf (ring .head) (ring .partitions) p in
+    let g = constrained (gradientOf (metBy ring p) e rates) in
     let v = stepped g (part 514 p (l .weights)) in
     record {
       still = λ t.
-          let w = h .still (and-l (l .good) (finiteTo v 514) t) in
-          let G : Kept Faint 514 g = constrained-faint (gradient-faint e rates (part-keeps (slotOf head parts p) (slot-small head parts p (omega arith)) X)) in
-          with-keeps p b w (blank-plus (stepped-blank G (part-keeps p b w)) (and-r (l .good) (finiteTo v 514) t));
+          let w = h .still (and-l (l .finite) (finiteTo v 514) t) in
+          let G : Kept Faint 514 g = constrained-faint (gradient-faint e rates (part-keeps slot (slot-small (ring .head) (ring .partitions) p (omega arith)) X)) in
+          with-keeps p b w (blank-plus (stepped-blank G (part-keeps p b w)) (and-r (l .finite) (finiteTo v 514) t));
     }
 
-learnt-plus : {xs sh : List Float} (parts head : ℕ) (e rates : List Float) → Kept Zero (514 * parts) xs → Kept Plus (514 * parts) sh
-    → Going parts (learntTo parts head xs e rates sh parts)
+learnt-plus : {sh : List Float} (ring : Ring) (e rates : List Float) → Kept Zero (514 * ring .partitions) (ring .spectra) → Kept Plus (514 * ring .partitions) sh
+    → Going (ring .partitions) (learntTo ring e rates sh (ring .partitions))
 unfolding learntTo
-learnt-plus {xs} {sh} parts head e rates X W =
-    iter-keeps (Going parts) (learntAt parts head xs e rates) (record { weights = sh; good = true }) parts (record { still = λ _. W })
-    (λ p l b h. learnt-going parts head e rates p l b X h)
+learnt-plus {sh} ring e rates X W =
+    iter-keeps (Going (ring .partitions)) (learntAt ring e rates) (record { weights = sh; finite = true }) (ring .partitions) (record { still = λ _. W })
+    (λ p l b h. learnt-going ring e rates p l b X h)
 
--- weights that are not all finite are cleared
-verdict-plus : {n : ℕ} (good : Bool) (means : List Float) (p : Paths) (m : ℕ) (sh : List Float) → length sh ≡ n → (good ≡ true → Kept Plus n sh)
-    → Kept Plus n (verdictOn good means p m sh .buffer)
-unfolding verdictOn divergeShadow cleared
-verdict-plus {n} good means p m sh l h =
-    pick-if (λ (r : Wrote Updated). Kept Plus n (r .buffer)) good h (λ _. rw l (plus-replicate n))
-
--- whether it runs or not
-updated-plus : {xs sh : List Float} (on : Bool) (parts head : ℕ) (error : List Float) (scale : Float) (means : List Float) (p : Paths) (m : ℕ)
-    → Kept Zero (514 * parts) xs → Kept Plus (514 * parts) sh → Kept Plus (514 * parts) (updated on parts head xs error scale means p m sh .buffer)
-unfolding updated
-updated-plus {xs} {sh} on parts head error scale means p m X W =
-    pick-if (λ (r : Wrote Updated). Kept Plus (514 * parts) (r .buffer)) on
-    (λ _. verdict-plus _ _ p m _ (learnt-lengths parts head xs _ _ sh (W .long)) (learnt-plus parts head _ _ X W .still)) (λ _. W)
+-- whether it runs or not; weights that are not all finite are cleared
+updated-plus : {sh : List Float} (runs : Bool) (ring : Ring) (error : List Float) (scale : Float) (means : List Float) (p : Paths) (m : ℕ)
+    → Kept Zero (514 * ring .partitions) (ring .spectra) → Kept Plus (514 * ring .partitions) sh
+    → Kept Plus (514 * ring .partitions) (updated runs ring error scale means p m sh .shadow)
+unfolding updated divergeShadow cleared
+updated-plus {sh} runs ring error scale means p m X W =
+    let k = 514 * ring .partitions in
+    let Q : Updated → Type 0 = λ r. Kept Plus k (r .shadow) in
+    pick-if Q runs
+    (λ _. pick-if Q (learntBy ring error scale means sh .finite) (learnt-plus ring _ _ X W .still)
+    (λ _. rw (learnt-lengths ring _ _ sh (W .long)) (plus-replicate k)))
+    (λ _. W)
 
 -- ---- steps 2 and 3
 
 -- whether the shadow diverges or not
-shadowed-plus : {sh : List Float} (parts head : ℕ) (xs near : List Float) (p : Paths) (m : ℕ) → Kept Plus (514 * parts) sh
-    → Kept Plus (514 * parts) (shadowed parts head xs near p m sh .buffer)
+shadowed-plus : {k : ℕ} {sh : List Float} (ring : Ring) (near : List Float) (p : Paths) (m : ℕ) → Kept Plus k sh → Kept Plus k (shadowed ring near p m sh .shadow)
 unfolding shadowed
-shadowed-plus {sh} parts head xs near p m W =
-    pick-if (λ (r : Wrote Shadowed). Kept Plus (514 * parts) (r .buffer)) _ (λ _. diverge-shadow-plus p m W) (λ _. W)
+shadowed-plus {k} ring near p m W = pick-if (λ (r : Shadowed). Kept Plus k (r .shadow)) _ (λ _. diverge-shadow-plus p m W) (λ _. W)
 
 -- the weights stay, and the error is near
-record Estimates (k : ℕ) (near sh ou error : List Float) : Type 0 where
-  weights : Both k sh ou
-  passed : error ≡ near
+record Estimates (k : ℕ) (near : List Float) (r : Estimated) : Type 0 where
+  weights : Both k (r .shadow) (r .output)
+  passed : r .error ≡ near
 
-estimated-through : {xs near sh ou : List Float} (parts head : ℕ) (p : Paths) (u : Suppressor) (m : ℕ) → 0 < parts → Near near → Kept Zero (514 * parts) xs
-    → Both (514 * parts) sh ou
-    → Estimates (514 * parts) near (estimated parts head xs near p u m sh ou .shadow) (estimated parts head xs near p u m sh ou .output)
-    (estimated parts head xs near p u m sh ou .answer .error)
+estimated-through : {near sh ou : List Float} (ring : Ring) (p : Paths) (u : Suppressor) (m : ℕ) → 0 < ring .partitions → Near near
+    → Kept Zero (514 * ring .partitions) (ring .spectra) → Both (514 * ring .partitions) sh ou
+    → Estimates (514 * ring .partitions) near (estimated ring near p u m sh ou)
 unfolding estimated
-estimated-through {xs} {near} {sh} {ou} parts head p u m b N X W =
-    let e = estimate-is head parts b (W .output) X in
-    off (λ (r : WroteBoth Estimated). Estimates (514 * parts) near (r .shadow) (r .output) (r .answer .error))
-    (badTo near (latter (samplesOf (echoOf ou xs head parts))) 256) _ (ap (λ (l : List Float). badTo near l 256) e ∙ bad-not N)
+estimated-through {near} {sh} {ou} ring p u m b N X W =
+    let e = estimate-is ring b (W .output) X in
+    off (Estimates (514 * ring .partitions) near) (badTo near (estimateOf ou ring) 256) _ (ap (λ (l : List Float). badTo near l 256) e ∙ bad-not N)
     (record { weights = W; passed = ap (errorsOf near) e ∙ errors-near N })
 
-filtered-through : {xs near sh ou : List Float} (parts head : ℕ) (m : Mic) → 0 < parts → Near near → Kept Zero (514 * parts) xs
-    → Both (514 * parts) sh ou
-    → Estimates (514 * parts) near (filtered parts head xs near m sh ou .shadow) (filtered parts head xs near m sh ou .output)
-    (filtered parts head xs near m sh ou .answer .output .error)
+filtered-through : {near sh ou : List Float} (ring : Ring) (m : Mic) → 0 < ring .partitions → Near near
+    → Kept Zero (514 * ring .partitions) (ring .spectra) → Both (514 * ring .partitions) sh ou
+    → Estimates (514 * ring .partitions) near (filtered ring near m sh ou .output)
 unfolding filtered
-filtered-through {xs} {near} {sh} {ou} parts head m b N X W =
-    let h = shadowed-plus parts head xs near (m .paths) (m .«divergence_resets») (W .shadow) in
-    estimated-through parts head _ _ _ b N X (record { shadow = h; output = W .output })
+filtered-through {near} {sh} {ou} ring m b N X W =
+    let h = shadowed-plus ring near (m .paths) (m .«divergence_resets») (W .shadow) in
+    estimated-through ring _ _ _ b N X (record { shadow = h; output = W .output })
 
 -- ---- step 5: no comparison
 
-compared-not : {n : ℕ} {sh ou : List Float} (on quiet : Bool) (es eo : List Float) (v : ℕ) (p : Paths) (k : ℕ) → on ≡ false → Both n sh ou
-    → Both n (compared on quiet es eo v p k sh ou .shadow) (compared on quiet es eo v p k sh ou .output)
+compared-not : {n : ℕ} {sh ou : List Float} (runs quiet : Bool) (es eo : List Float) (v : ℕ) (p : Paths) (k : ℕ) → runs ≡ false → Both n sh ou
+    → Both n (compared runs quiet es eo v p k sh ou .shadow) (compared runs quiet es eo v p k sh ou .output)
 unfolding compared acted shadowAfter outputAfter
-compared-not {n} {sh} {ou} on quiet es eo v p k e W = off (λ (r : WroteBoth Compared). Both n (r .shadow) (r .output)) on _ e W
+compared-not {n} {sh} {ou} runs quiet es eo v p k e W = off (λ (r : Comparison). Both n (r .shadow) (r .output)) runs _ e W
 
-compares-not : {k : ℕ} {sh ou : List Float} (adapt active : Bool) (near : List Float) (energy : Float) (n : ℕ) (f : Filtered) (m : Mic) → active ≡ false → Both k sh ou
-    → Both k (compares adapt active near energy n f m sh ou .shadow) (compares adapt active near energy n f m sh ou .output)
+compares-not : {k : ℕ} (adapt active : Bool) (near : List Float) (energy : Float) (n : ℕ) (f : Filtered) (m : Mic) → active ≡ false
+    → Both k (f .output .shadow) (f .output .output)
+    → Both k (compares adapt active near energy n f m .comparison .shadow) (compares adapt active near energy n f m .comparison .output)
 unfolding compares
 compares-not adapt active near energy n f m q W =
-    compared-not _ _ (f .shadow .error) (f .output .error) n (f .output .paths) (m .transfers)
+    compared-not _ _ (f .shadowError) (f .output .error) n (f .output .paths) (m .transfers)
     (not-l _ _ (not-r (adapt && not (f .output .diverged)) active q)) W
 
 -- ---- step 7: no suppressor
@@ -403,43 +392,43 @@ unfolding replaced
 replaced-front near n block h k = ap (take n) (over-copied nan n near block h k) ∙ take-at (take n near) (drop n block) n (length-take-le n near h)
 
 -- the output's weights stay +0.0, and the first n places are near's
-record Delivers (k n : ℕ) (near ou block : List Float) : Type 0 where
-  output : Kept Plus k ou
-  passed : take n block ≡ take n near
+record Delivers (k n : ℕ) (near : List Float) (r : Guarded) : Type 0 where
+  output : Kept Plus k (r .output)
+  passed : take n (r .block) ≡ take n near
 
 guarded-near : {k : ℕ} {ou : List Float} (near : List Float) (en : Float) (n : ℕ) (g : Guard) (u : Suppressor) (p : Paths) (m : ℕ) (block : List Float)
-    → n ≤ length near → block ≡ near → Kept Plus k ou
-    → Delivers k n near (guarded near en n g u p m block ou .buffer) (guarded near en n g u p m block ou .answer .block)
+    → n ≤ length near → block ≡ near → Kept Plus k ou → Delivers k n near (guarded near en n g u p m block ou)
 unfolding guarded
 guarded-near {k} {ou} near en n g u p m block b e W =
-    pick-if (λ (r : Wrote Guarded). Delivers k n near (r .buffer) (r .answer .block)) _
+    pick-if (Delivers k n near) _
     (λ _. record { output = retire-plus _ p u m W; passed = replaced-front near n block b (rw e b) })
     (λ _. record { output = W; passed = ap (take n) e })
 
-delivered-near : {k : ℕ} {ou : List Float} (on protect : Bool) (near : List Float) (energy : Float) (n : ℕ) (b : Estimated) (m : Mic) (p : Paths) (resets : ℕ)
-    → n ≤ length near → on ≡ false → b .error ≡ near → Kept Plus k ou
-    → Delivers k n near (delivered on protect near energy n b m p resets ou .buffer) (delivered on protect near energy n b m p resets ou .answer .block)
+delivered-near : {k : ℕ} {ou : List Float} (runs protect : Bool) (near : List Float) (energy : Float) (n : ℕ) (b : Estimated) (m : Mic) (p : Paths) (resets : ℕ)
+    → n ≤ length near → runs ≡ false → b .error ≡ near → Kept Plus k ou
+    → Delivers k n near (delivered runs protect near energy n b m p resets ou .guarded)
 unfolding delivered
-delivered-near on protect near energy n b m p resets l q e W =
-    guarded-near near energy n (m .guard) _ p resets _ l (suppressed-not on protect (b .error) (b .spectrum) (b .suppressor) q ∙ e) W
+delivered-near runs protect near energy n b m p resets l q e W =
+    guarded-near near energy n (m .guard) _ p resets _ l (suppressed-not runs protect (b .error) (b .spectrum) (b .suppressor) q ∙ e) W
 
 -- ---- a microphone's block
 
-record Listens (k n : ℕ) (near sh ou block : List Float) : Type 0 where
-  weights : Both k sh ou
-  passed : take n block ≡ take n near
+record Listens (k n : ℕ) (near : List Float) (r : Listened) : Type 0 where
+  weights : Both k (r .microphone .shadow) (r .microphone .output)
+  passed : take n (r .block) ≡ take n near
 
-module _ (parts : ℕ) (flag : Bool) (head : ℕ) (sounded active : Bool) (xs near : List Float) (n : ℕ) (adapt : Bool) (m : Mic) (sh ou : List Float) where
-  listen-near : 0 < parts → sounded ≡ false → active ≡ false → Kept Zero (514 * parts) xs → Near near → n ≤ 256 → Both (514 * parts) sh ou
-      → Listens (514 * parts) n near (listen parts flag head sounded active xs near n adapt m sh ou .shadow) (listen parts flag head sounded active xs near n adapt m sh ou .output)
-      (listen parts flag head sounded active xs near n adapt m sh ou .answer .block)
-  unfolding listen
-  listen-near b s a X N l W =
-      let k : n ≤ length near = omega (arith, N .long) in
-      let f = filtered-through parts head m b N X W in
-      let j = compares-not adapt active near _ n _ m a (f .weights) in
-      let g = delivered-near _ _ near _ n _ m _ _ k (not-l _ _ (not-r flag sounded s)) (f .passed) (j .output) in
-      record { weights = record { shadow = updated-plus _ parts head _ _ _ _ _ X (j .shadow); output = g .output }; passed = g .passed }
+grouped-near : (flagged : Bool) (playing : Playing) (b : Block) (m : Microphone)
+    → 0 < playing .ring .partitions → playing .sounded ≡ false → playing .active ≡ false
+    → Kept Zero (514 * playing .ring .partitions) (playing .ring .spectra) → Near (b .near) → b .valid ≤ 256
+    → Both (514 * playing .ring .partitions) (m .shadow) (m .output)
+    → Listens (514 * playing .ring .partitions) (b .valid) (b .near) (grouped flagged playing b m)
+unfolding grouped
+grouped-near flagged playing b m p s a X N l W =
+    let k : b .valid ≤ length (b .near) = omega (arith, N .long) in
+    let f = filtered-through (playing .ring) (m .mic) p N X W in
+    let j = compares-not (b .adapt) (playing .active) (b .near) _ (b .valid) _ (m .mic) a (f .weights) in
+    let g = delivered-near _ _ (b .near) _ (b .valid) _ (m .mic) _ _ k (not-l _ _ (not-r flagged (playing .sounded) s)) (f .passed) (j .output) in
+    record { weights = record { shadow = updated-plus _ (playing .ring) _ _ _ _ _ X (j .shadow); output = g .output }; passed = g .passed }
 
 -- ---- the block
 
@@ -461,13 +450,16 @@ cleared-silent s r a p w =
 
 -- A block before the first far sound, of n valid samples, with adaptation or in a flush: the first n places are near's bit for bit, and
 -- the state and the buffers are silent again.
-pub block-passed : (s : TauCanceller) (near far : List Float) (n : ℕ) (adapt : Bool) (sh ou xs : List Float) → Silent s sh ou xs → Near near → Kept Zero 256 far → n ≤ 256
-    → Passed s near n (runBlock s near far n adapt sh ou xs)
+pub block-passed : (e : Engine) (far : List Float) (b : Block) → Silent (e .state) (e .shadow) (e .output) (e .spectra) → Near (b .near) → Kept Zero 256 far
+    → b .valid ≤ 256 → Passed (e .state) (b .near) (b .valid) (runBlock e far b)
 unfolding runBlock
-block-passed s near far n adapt sh ou xs S N F l =
+block-passed e far b S N F l =
+    let s = e .state in
     let h = heard-hushed S F in
-    let b : 0 < s .partitions = omega (arith, S .ring) in
-    let r = listen-near (s .partitions) (s .suppress) _ _ _ _ near n adapt (s .mic) sh ou b (h .still) (h .quiet) (h .spectra) N l (record { shadow = S .shadow; output = S .output }) in
+    let p : 0 < s .partitions = omega (arith, S .ring) in
+    let m : Microphone = record { mic = s .mic; shadow = e .shadow; output = e .output } in
+    let r = subst (Listens (514 * s .partitions) (b .valid) (b .near)) (listen-grouped (s .suppress) _ b m)
+    (grouped-near (s .suppress) _ b m p (h .still) (h .quiet) (h .spectra) N l (record { shadow = S .shadow; output = S .output })) in
     record {
       parts = refl;
       silent = record {
@@ -481,10 +473,3 @@ block-passed s near far n adapt sh ou xs S N F l =
       };
       block = r .passed;
     }
-
--- A whole block is near.
-pub whole-passed : (s : TauCanceller) (near far : List Float) (adapt : Bool) (sh ou xs : List Float) → Silent s sh ou xs → Near near → Kept Zero 256 far
-    → runBlock s near far 256 adapt sh ou xs .answer .block ≡ near
-whole-passed s near far adapt sh ou xs S N F =
-    let l = length-block s near far 256 adapt sh ou xs in
-    sym (take-all 256 _ (omega arith)) ∙ block-passed s near far 256 adapt sh ou xs S N F (omega arith) .block ∙ take-all 256 near (omega (arith, N .long))

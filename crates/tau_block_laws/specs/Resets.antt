@@ -8,22 +8,19 @@ use lib.Ieee.{Float}
 use Rattle.laws.specs.Choice.{pick}
 use Rattle.laws.specs.Loops.{iter}
 use Rattle.tau_state.specs.Constants.{oneMore}
-use Rattle.tau_state.specs.After.{Wrote, WroteBoth}
 use Rattle.tau_state.specs.Sums.{energyOf}
-use Rattle.tau_steps.specs.Clears.{divergeShadow, divergeOf, retireOutput}
-use Rattle.tau_steps.specs.Guard.{watched, trips, guarded}
-use Rattle.tau_state.specs.declared.state.TauCanceller.{TauCanceller}
-use Rattle.tau_state.specs.declared.state.Mic.{Mic}
 use Rattle.tau_state.specs.declared.state.Paths.{Paths}
 use Rattle.tau_state.specs.declared.state.Suppressor.{Suppressor}
 use Rattle.tau_state.specs.declared.state.Guard.{Guard}
-use Rattle.tau_steps.specs.declared.clears.ShadowCleared.{ShadowCleared}
-use Rattle.tau_steps.specs.declared.clears.OutputCleared.{OutputCleared}
+use Rattle.tau_steps.specs.Clears.{ShadowClear, BothClear, OutputHalved, divergeShadow, divergeOf, retireOutput}
+use Rattle.tau_steps.specs.Guard.{watched, trips, guarded}
+use Rattle.tau_spectra.specs.Ring.{Ring, ringOf}
 use Rattle.tau_spectra.specs.Far.{hearFar}
 use Rattle.tau_filter.specs.Filter.{shadowed, estimated}
 use Rattle.tau_update.specs.Update.{learntBy, updated}
 use Rattle.tau_suppressor.specs.Suppressor.{suppressed}
-use Rattle.tau_block.specs.Block.{filtered, compares, updates, suppresses}
+use Rattle.tau_block.specs.Block.{Block, Playing, Microphone, Engine}
+use Rattle.tau_block.specs.Groups.{filtered, compares, updates, suppresses}
 
 -- Whether a clear happens, at each of the four places of a block where one may.
 pub record Clears : Type 0 where
@@ -37,28 +34,29 @@ pub record Clears : Type 0 where
   pub guard : Bool
 
 -- in a microphone's block: the verdicts of steps 2 and 3, and the tests of steps 6 and 8, on the values that `listen` hands those steps
-unfoldable pub clearsIn : ℕ → Bool → ℕ → Bool → Bool → List Float → List Float → ℕ → Bool → Mic → List Float → List Float → Clears
-clearsIn parts flag head sounded active xs near n adapt m sh ou =
-    let energy = energyOf near n in
-    let f = filtered parts head xs near m sh ou in
-    let a = f .answer .shadow in
-    let b = f .answer .output in
-    let j = compares adapt active near energy n (f .answer) m (f .shadow) (f .output) in
-    let d = j .answer .detector in
-    let l = learntBy parts head xs (a .error) (d .«step_scale») (m .«far_power_mean») (j .shadow) in
-    let s = suppressed (suppresses flag sounded (f .answer)) (d .«protect_output») (b .error) (b .spectrum) (b .suppressor) in
+unfoldable pub clearsIn : Bool → Playing → Block → Microphone → Clears
+clearsIn flagged playing b m =
+    let mic = m .mic in
+    let energy = energyOf (b .near) (b .valid) in
+    let f = filtered (playing .ring) (b .near) mic (m .shadow) (m .output) in
+    let j = compares (b .adapt) (playing .active) (b .near) energy (b .valid) f mic in
+    let learnt = learntBy (playing .ring) (f .shadowError) (j .detector .«step_scale») (mic .«far_power_mean») (j .comparison .shadow) in
+    let suppression = suppressed (suppresses flagged (playing .sounded) f) (j .detector .«protect_output») (f .output .error) (f .output .spectrum) (f .output .suppressor) in
     record {
-      shadow = a .diverged;
-      output = b .diverged;
-      update = updates adapt (f .answer) (j .answer .compared) && not (l .good);
-      guard = trips (watched energy (energyOf (s .block) n) (m .guard));
+      shadow = f .shadowDiverged;
+      output = f .output .diverged;
+      update = updates (b .adapt) f j && not (learnt .finite);
+      guard = trips (watched energy (energyOf (suppression .block) (b .valid)) (mic .guard));
     }
 
 -- in a block
-unfoldable pub clearsOf : TauCanceller → List Float → List Float → ℕ → Bool → List Float → List Float → List Float → Clears
-clearsOf s near far n adapt sh ou xs =
-    let h = hearFar (s .partitions) (s .far) far xs in
-    clearsIn (s .partitions) (s .suppress) (h .answer .far .head) (h .answer .far .«far_active») (h .answer .«far_is_active») (h .buffer) near n adapt (s .mic) sh ou
+unfoldable pub clearsOf : Engine → List Float → Block → Clears
+clearsOf e far b =
+    let s = e .state in
+    let heard = hearFar (s .partitions) (s .far) far (e .spectra) in
+    clearsIn (s .suppress)
+    (record { ring = ringOf (s .partitions) (heard .far .head) (heard .spectra); sounded = heard .far .«far_active»; active = heard .active })
+    b (record { mic = s .mic; shadow = e .shadow; output = e .output })
 
 -- how many of them
 unfoldable pub told : Bool → ℕ
@@ -68,46 +66,42 @@ told false = 0
 unfoldable pub howMany : Clears → ℕ
 howMany c = told (c .shadow) + told (c .output) + told (c .update) + told (c .guard)
 
--- the counter m, k times one more
+-- a counter, k times one more
 abbrev pub moreBy : ℕ → ℕ → ℕ
-moreBy k m = iter (λ _ r. oneMore r) m k
+moreBy k counter = iter (λ _ n. oneMore n) counter k
 
 -- ---- That each of the four says whether the step does its clear, as statements: where it holds, the paths, the counter, the weights and the
 -- suppressor that the step leaves are the clear's, and where not, the counter is as it was, and nothing is cleared.
 
 -- step 2
 abbrev pub ShadowClears : Type 0
-ShadowClears = (parts head : ℕ) (xs near : List Float) (p : Paths) (m : ℕ) (sh : List Float)
-    → let w = shadowed parts head xs near p m sh in
-    _≡_ {A = Wrote ShadowCleared} (record { answer = record { paths = w .answer .paths; «divergence_resets» = w .answer .«divergence_resets» }; buffer = w .buffer })
-    (pick (w .answer .diverged) (divergeShadow p m sh) (record { answer = record { paths = p; «divergence_resets» = m }; buffer = sh }))
+ShadowClears = (ring : Ring) (near : List Float) (paths : Paths) (resets : ℕ) (shadow : List Float)
+    → let after = shadowed ring near paths resets shadow in
+    _≡_ {A = ShadowClear} (record { paths = after .paths; resets = after .resets; shadow = after .shadow })
+    (pick (after .diverged) (divergeShadow paths resets shadow) (record { paths = paths; resets = resets; shadow = shadow }))
 
 -- step 3
 abbrev pub OutputClears : Type 0
-OutputClears = (parts head : ℕ) (xs near : List Float) (p : Paths) (u : Suppressor) (m : ℕ) (sh ou : List Float)
-    → let w = estimated parts head xs near p u m sh ou in
-    _≡_ {A = WroteBoth OutputCleared}
-    (record {
-      answer = record { paths = w .answer .paths; suppressor = w .answer .suppressor; «divergence_resets» = w .answer .«divergence_resets» };
-      shadow = w .shadow;
-      output = w .output;
-    })
-    (pick (w .answer .diverged) (divergeOf p u m sh ou) (record { answer = record { paths = p; suppressor = u; «divergence_resets» = m }; shadow = sh; output = ou }))
+OutputClears = (ring : Ring) (near : List Float) (paths : Paths) (suppressor : Suppressor) (resets : ℕ) (shadow output : List Float)
+    → let after = estimated ring near paths suppressor resets shadow output in
+    _≡_ {A = BothClear} (record { paths = after .paths; suppressor = after .suppressor; resets = after .resets; shadow = after .shadow; output = after .output })
+    (pick (after .diverged) (divergeOf paths suppressor resets shadow output)
+    (record { paths = paths; suppressor = suppressor; resets = resets; shadow = shadow; output = output }))
 
 -- step 6, which clears the weights that it wrote
 abbrev pub UpdateClears : Type 0
-UpdateClears = (on : Bool) (parts head : ℕ) (xs error : List Float) (scale : Float) (means : List Float) (p : Paths) (m : ℕ) (sh : List Float)
-    → let w = updated on parts head xs error scale means p m sh in
-    let l = learntBy parts head xs error scale means sh in
-    _≡_ {A = Wrote ShadowCleared} (record { answer = record { paths = w .answer .paths; «divergence_resets» = w .answer .«divergence_resets» }; buffer = w .buffer })
-    (pick (on && not (l .good)) (divergeShadow p m (l .weights)) (record { answer = record { paths = p; «divergence_resets» = m }; buffer = pick on (l .weights) sh }))
+UpdateClears = (runs : Bool) (ring : Ring) (error : List Float) (scale : Float) (means : List Float) (paths : Paths) (resets : ℕ) (shadow : List Float)
+    → let after = updated runs ring error scale means paths resets shadow in
+    let learnt = learntBy ring error scale means shadow in
+    _≡_ {A = ShadowClear} (record { paths = after .paths; resets = after .resets; shadow = after .shadow })
+    (pick (runs && not (learnt .finite)) (divergeShadow paths resets (learnt .weights))
+    (record { paths = paths; resets = resets; shadow = pick runs (learnt .weights) shadow }))
 
 -- step 8
 abbrev pub GuardClears : Type 0
-GuardClears = (near : List Float) (en : Float) (n : ℕ) (g : Guard) (u : Suppressor) (p : Paths) (m : ℕ) (block ou : List Float)
-    → let w = guarded near en n g u p m block ou in
-    let h = watched en (energyOf block n) g in
-    _≡_ {A = Wrote OutputCleared}
-    (record { answer = record { paths = w .answer .paths; suppressor = w .answer .suppressor; «divergence_resets» = w .answer .«divergence_resets» }; buffer = w .buffer })
-    (pick (trips h) (retireOutput (h .«divergence_near_power») p u m ou)
-    (record { answer = record { paths = p; suppressor = u; «divergence_resets» = m }; buffer = ou }))
+GuardClears = (near : List Float) (energy : Float) (valid : ℕ) (guard : Guard) (suppressor : Suppressor) (paths : Paths) (resets : ℕ) (block output : List Float)
+    → let after = guarded near energy valid guard suppressor paths resets block output in
+    let powers = watched energy (energyOf block valid) guard in
+    _≡_ {A = OutputHalved} (record { paths = after .paths; suppressor = after .suppressor; resets = after .resets; output = after .output })
+    (pick (trips powers) (retireOutput (powers .«divergence_near_power») paths suppressor resets output)
+    (record { paths = paths; suppressor = suppressor; resets = resets; output = output }))

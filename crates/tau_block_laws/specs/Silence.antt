@@ -32,6 +32,6 @@ pub record Silent (s : TauCanceller) (sh ou xs : List Float) : Type 0 where
 -- A block of n valid samples that passed: the first n places delivered are near's, and what is left is silent again, with as many
 -- partitions.
 pub record Passed (s : TauCanceller) (near : List Float) (n : ℕ) (r : Ran) : Type 0 where
-  pub parts : r .answer .state .partitions ≡ s .partitions
-  pub silent : Silent (r .answer .state) (r .shadow) (r .output) (r .spectra)
-  pub block : take n (r .answer .block) ≡ take n near
+  pub parts : r .engine .state .partitions ≡ s .partitions
+  pub silent : Silent (r .engine .state) (r .engine .shadow) (r .engine .output) (r .engine .spectra)
+  pub block : take n (r .block) ≡ take n near

@@ -13,83 +13,103 @@ use Rattle.complex.specs.declared.Complex.{Complex}
 use Rattle.complex.specs.Complexes.{newC, getC, addC, mulC}
 use Rattle.fft.specs.Calls.{samplesOf}
 use Rattle.tau_state.specs.Constants.{zero32, zero64}
-use Rattle.tau_state.specs.After.{Wrote, WroteBoth}
-use Rattle.tau_steps.specs.Clears.{divergeShadow, divergeOf}
 use Rattle.tau_state.specs.declared.state.Paths.{Paths}
 use Rattle.tau_state.specs.declared.state.Suppressor.{Suppressor}
+use Rattle.tau_steps.specs.Clears.{divergeShadow, divergeOf}
 use Rattle.tau_spectra.specs.Windows.{latter}
-use Rattle.tau_spectra.specs.Ring.{slotOf}
-use Rattle.tau_filter.specs.declared.filter.Shadowed.{Shadowed}
-use Rattle.tau_filter.specs.declared.filter.Estimated.{Estimated}
+use Rattle.tau_spectra.specs.Ring.{Ring, metBy}
 
 -- bin k of a sum, with the product of the weight and the spectrum added
 abbrev pub addedAt : List Float → List Float → ℕ → Float → Float → Complex
-addedAt w x k re im = addC (newC re im) (mulC (getC w k) (getC x k))
+addedAt weights spectrum k re im = addC (newC re im) (mulC (getC weights k) (getC spectrum k))
 
 -- the first n bins
 unfoldable pub added : List Float → List Float → ℕ → List Float → List Float
-added w x n acc = over2 nan n (λ k re im. addedAt w x k re im .re) (λ k re im. addedAt w x k re im .im) acc
+added weights spectrum n sum = over2 nan n (λ k re im. addedAt weights spectrum k re im .re) (λ k re im. addedAt weights spectrum k re im .im) sum
 
 -- "partition then bin", from +0.0: the first n partitions
-unfoldable pub echoTo : List Float → List Float → ℕ → ℕ → ℕ → List Float
-echoTo ws xs head parts n = iter (λ p acc. added (part 514 p ws) (part 514 (slotOf head parts p) xs) 257 acc) (replicate 514 zero64) n
+unfoldable pub echoTo : List Float → Ring → ℕ → List Float
+echoTo weights ring n = iter (λ p sum. added (part 514 p weights) (metBy ring p) 257 sum) (replicate 514 zero64) n
 
-abbrev pub echoOf : List Float → List Float → ℕ → ℕ → List Float
-echoOf ws xs head parts = echoTo ws xs head parts parts
+abbrev pub echoOf : List Float → Ring → List Float
+echoOf weights ring = echoTo weights ring (ring .partitions)
+
+-- the estimate: "last 256 samples of the inverse" of that spectrum
+abbrev pub estimateOf : List Float → Ring → List Float
+estimateOf weights ring = latter (samplesOf (echoOf weights ring))
 
 -- near less the estimate, an f32 subtraction
 abbrev pub errorAt : List Float → List Float → ℕ → Float
-errorAt near est k = sub binary32 (getD near k nan) (getD est k nan)
+errorAt near estimate k = sub binary32 (getD near k nan) (getD estimate k nan)
 
 unfoldable pub errorsOf : List Float → List Float → List Float
-errorsOf near est = table 256 (errorAt near est)
+errorsOf near estimate = table 256 (errorAt near estimate)
 
 -- "A non-finite error", among the first n
 unfoldable pub badTo : List Float → List Float → ℕ → Bool
-badTo near est n = iter (λ k b. b || not (isFinite (errorAt near est k))) false n
+badTo near estimate n = iter (λ k bad. bad || not (isFinite (errorAt near estimate k))) false n
 
--- step 2: ".. clears the shadow (`diverge_shadow`), sets its estimate to zero and its error to near"
-unfoldable pub shadowed : ℕ → ℕ → List Float → List Float → Paths → ℕ → List Float → Wrote Shadowed
-shadowed parts head xs near p m sh =
-    let est = latter (samplesOf (echoOf sh xs head parts)) in
-    let c = divergeShadow p m sh in
-    pick (badTo near est 256)
-    (record {
-      answer = record {
-        paths = c .answer .paths;
-        «divergence_resets» = c .answer .«divergence_resets»;
-        diverged = true;
-        estimate = replicate 256 zero32;
-        error = near;
-      };
-      buffer = c .buffer;
-    })
-    (record {
-      answer = record { paths = p; «divergence_resets» = m; diverged = false; estimate = est; error = errorsOf near est };
-      buffer = sh;
-    })
+-- what step 2 leaves
+pub record Shadowed : Type 0 where
+  pub paths : Paths
+  pub resets : ℕ
+  pub diverged : Bool
+  pub estimate : List Float
+  pub error : List Float
+  pub shadow : List Float
 
--- step 3: ".. clears both filters (`diverge`), and the error block is 0.0"
-unfoldable pub estimated : ℕ → ℕ → List Float → List Float → Paths → Suppressor → ℕ → List Float → List Float → WroteBoth Estimated
-estimated parts head xs near p u m sh ou =
-    let spectrum = echoOf ou xs head parts in
-    let est = latter (samplesOf spectrum) in
-    let c = divergeOf p u m sh ou in
-    pick (badTo near est 256)
+-- 2. "Shadow estimate, partition then bin; last 256 samples of the inverse. A non-finite error clears the shadow (`diverge_shadow`), sets
+-- its estimate to zero and its error to near."
+unfoldable pub shadowed : Ring → List Float → Paths → ℕ → List Float → Shadowed
+shadowed ring near paths resets shadow =
+    let estimate = estimateOf shadow ring in
+    let clear = divergeShadow paths resets shadow in
+    pick (badTo near estimate 256)
     (record {
-      answer = record {
-        paths = c .answer .paths;
-        suppressor = c .answer .suppressor;
-        «divergence_resets» = c .answer .«divergence_resets»;
-        diverged = true;
-        spectrum = spectrum;
-        error = replicate 256 zero32;
-      };
-      shadow = c .shadow;
-      output = c .output;
+      paths = clear .paths;
+      resets = clear .resets;
+      diverged = true;
+      estimate = replicate 256 zero32;
+      error = near;
+      shadow = clear .shadow;
+    })
+    (record { paths = paths; resets = resets; diverged = false; estimate = estimate; error = errorsOf near estimate; shadow = shadow })
+
+-- what step 3 leaves
+pub record Estimated : Type 0 where
+  pub paths : Paths
+  pub suppressor : Suppressor
+  pub resets : ℕ
+  pub diverged : Bool
+  pub spectrum : List Float
+  pub error : List Float
+  pub shadow : List Float
+  pub output : List Float
+
+-- 3. "Output estimate the same way. A non-finite error clears both filters (`diverge`), and the error block is 0.0." The suppressor
+-- reads the estimate's spectrum.
+unfoldable pub estimated : Ring → List Float → Paths → Suppressor → ℕ → List Float → List Float → Estimated
+estimated ring near paths suppressor resets shadow output =
+    let estimate = estimateOf output ring in
+    let clear = divergeOf paths suppressor resets shadow output in
+    pick (badTo near estimate 256)
+    (record {
+      paths = clear .paths;
+      suppressor = clear .suppressor;
+      resets = clear .resets;
+      diverged = true;
+      spectrum = echoOf output ring;
+      error = replicate 256 zero32;
+      shadow = clear .shadow;
+      output = clear .output;
     })
     (record {
-      answer = record { paths = p; suppressor = u; «divergence_resets» = m; diverged = false; spectrum = spectrum; error = errorsOf near est };
-      shadow = sh;
-      output = ou;
+      paths = paths;
+      suppressor = suppressor;
+      resets = resets;
+      diverged = false;
+      spectrum = echoOf output ring;
+      error = errorsOf near estimate;
+      shadow = shadow;
+      output = output;
     })

@@ -1,28 +1,30 @@
--- What steps 2 and 3 answer, from what they return and what they wrote to the arrays that they were lent. Definitions only.
+-- What steps 2 and 3 leave, from what they return and what they wrote to the arrays that they were lent. Definitions only.
 use mathlib.Core.List.{List}
 use lib.Ieee.{Float}
 use Rattle.tau_state.specs.declared.state.Suppressor.{Suppressor}
+use Rattle.tau_filter.specs.Filter.{Shadowed, Estimated}
 use Rattle.tau_filter.specs.declared.filter.Checked.{Checked}
-use Rattle.tau_filter.specs.declared.filter.Shadowed.{Shadowed}
-use Rattle.tau_filter.specs.declared.filter.Estimated.{Estimated}
 
--- step 2, with the estimate and the error
-abbrev pub shadowedOf : Checked → List Float → List Float → Shadowed
-shadowedOf r estimate error = record {
+-- step 2: the estimate, the error and the shadow's weights
+abbrev pub shadowedOf : Checked → List Float → List Float → List Float → Shadowed
+shadowedOf r estimate error shadow = record {
   paths = r .paths;
-  «divergence_resets» = r .«divergence_resets»;
+  resets = r .«divergence_resets»;
   diverged = r .diverged;
   estimate = estimate;
   error = error;
+  shadow = shadow;
 }
 
--- step 3, with the suppressor, the echo's spectrum and the error
-abbrev pub estimatedOf : Checked → Suppressor → List Float → List Float → Estimated
-estimatedOf r u spectrum error = record {
+-- step 3: the suppressor, the estimate's spectrum, the error and both filters' weights
+abbrev pub estimatedOf : Checked → Suppressor → List Float → List Float → List Float → List Float → Estimated
+estimatedOf r suppressor spectrum error shadow output = record {
   paths = r .paths;
-  suppressor = u;
-  «divergence_resets» = r .«divergence_resets»;
+  suppressor = suppressor;
+  resets = r .«divergence_resets»;
   diverged = r .diverged;
   spectrum = spectrum;
   error = error;
+  shadow = shadow;
+  output = output;
 }

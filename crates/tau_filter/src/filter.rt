@@ -5,7 +5,6 @@ use tau_spectra::bins::put;
 use tau_spectra::ring::slot_of;
 use tau_spectra::transform::later_half;
 use tau_state::state::Paths;
-use tau_state::state::Suppressor;
 use tau_steps::clears::diverge;
 use tau_steps::clears::diverge_shadow;
 ghost use mathlib.Core.Path.{_≡_};
@@ -13,25 +12,9 @@ ghost use Prim.Native.Nat.{_≤_, _<_, _*_};
 ghost use lib.ListN.{length};
 ghost use Rattle.trig.specs.Tables.{recombination};
 ghost use Rattle.tau_state.specs.Lent.{suppressorOf};
+ghost use Rattle.tau_spectra.specs.Ring.{ringOf};
 ghost use Rattle.tau_filter.specs.Lent.{shadowedOf, estimatedOf};
 ghost use Rattle.tau_filter.specs.Filter.{added, echoOf, errorsOf, badTo, shadowed, estimated};
-
-pub struct Shadowed {
-    pub paths: Paths,
-    pub divergence_resets: u64,
-    pub diverged: bool,
-    pub estimate: [f32; 256],
-    pub error: [f32; 256],
-}
-
-pub struct Estimated {
-    pub paths: Paths,
-    pub suppressor: Suppressor,
-    pub divergence_resets: u64,
-    pub diverged: bool,
-    pub spectrum: [f64; 514],
-    pub error: [f32; 256],
-}
 
 // One partition's products, bin by bin onto the sum.
 fn multiply_add(acc: &mut [f64; 514], w: &[f64], x: &[f64])
@@ -49,7 +32,7 @@ fn multiply_add(acc: &mut [f64; 514], w: &[f64], x: &[f64])
 
 fn echo(ws: &[f64], xs: &[f64], head: usize, parts: usize, acc: &mut [f64; 514])
     requires { ⌜ (length (now ws) ≡ 514 * parts) × (length (now xs) ≡ 514 * parts) × (head < parts) × (parts ≤ 32) ⌝ }
-    ensures { λ _. ⌜ now (acc .exit) ≡ echoOf (now (ws .entry)) (now (xs .entry)) head parts ⌝ }
+    ensures { λ _. ⌜ now (acc .exit) ≡ echoOf (now (ws .entry)) (ringOf parts head (now (xs .entry))) ⌝ }
 {
     let zero = Complex::ZERO;
     *acc = [zero.re; 514];
@@ -103,7 +86,7 @@ pub fn shadow_estimate(
 ) -> Checked
     requires { ⌜ now table ≡ recombination ⌝ }
     requires { ⌜ (length (now shadow) ≡ 514 * parts) × (length (now xs) ≡ 514 * parts) × (head < parts) × (parts ≤ 32) ⌝ }
-    ensures { λ r. ⌜ record { answer = shadowedOf r (now (estimate .exit)) (now (error .exit)); buffer = now (shadow .exit) } ≡ shadowed parts head (now (xs .entry)) (now (near .entry)) p resets (now (shadow .entry)) ⌝ }
+    ensures { λ r. ⌜ shadowedOf r (now (estimate .exit)) (now (error .exit)) (now (shadow .exit)) ≡ shadowed (ringOf parts head (now (xs .entry))) (now (near .entry)) p resets (now (shadow .entry)) ⌝ }
 {
     echo(shadow, xs, head, parts, bins);
     later_half(table, scratch, bins, estimate);
@@ -146,7 +129,7 @@ pub fn output_estimate(
 ) -> Checked
     requires { ⌜ now table ≡ recombination ⌝ }
     requires { ⌜ (length (now output) ≡ 514 * parts) × (length (now xs) ≡ 514 * parts) × (head < parts) × (parts ≤ 32) ⌝ }
-    ensures { λ r. ⌜ record { answer = estimatedOf r (suppressorOf (now (echoes .exit)) (now (errs .exit)) (now (gain .exit)) (now (window .entry))) (now (bins .exit)) (now (error .exit)); shadow = now (shadow .exit); output = now (output .exit) } ≡ estimated parts head (now (xs .entry)) (now (near .entry)) p (suppressorOf (now (echoes .entry)) (now (errs .entry)) (now (gain .entry)) (now (window .entry))) resets (now (shadow .entry)) (now (output .entry)) ⌝ }
+    ensures { λ r. ⌜ estimatedOf r (suppressorOf (now (echoes .exit)) (now (errs .exit)) (now (gain .exit)) (now (window .entry))) (now (bins .exit)) (now (error .exit)) (now (shadow .exit)) (now (output .exit)) ≡ estimated (ringOf parts head (now (xs .entry))) (now (near .entry)) p (suppressorOf (now (echoes .entry)) (now (errs .entry)) (now (gain .entry)) (now (window .entry))) resets (now (shadow .entry)) (now (output .entry)) ⌝ }
 {
     echo(output, xs, head, parts, bins);
     let mut estimate = [0.0f32; 256];

@@ -2,7 +2,6 @@
 use crate::ring::next_slot;
 use crate::transform::slide;
 use crate::transform::spectrum;
-use tau_state::state::Far;
 use tau_state::state::FarRest;
 use tau_state::sums::energy;
 ghost use mathlib.Core.Path.{_≡_};
@@ -12,14 +11,9 @@ ghost use Rattle.laws.specs.Parts.{withPart};
 ghost use Rattle.trig.specs.Tables.{recombination};
 ghost use Rattle.fft.specs.Calls.{spectrumOf};
 ghost use Rattle.tau_state.specs.Lent.{farOf};
-ghost use Rattle.tau_spectra.specs.Far.{sounds, peakOf, drives, hearFar};
+ghost use Rattle.tau_spectra.specs.Far.{sounds, energyPeak, drives, hearFar};
 
 const FAR_ACTIVITY_FRACTION: f64 = 1e-4;
-
-pub struct Heard {
-    pub far: Far,
-    pub far_is_active: bool,
-}
 
 fn sounding(b: &[f32; 256]) -> bool
     ensures { λ r. ⌜ r ≡ sounds (now (b .entry)) 256 ⌝ }
@@ -34,7 +28,7 @@ fn sounding(b: &[f32; 256]) -> bool
 }
 
 fn peak(old: f64, e: f64) -> f64
-    ensures { λ r. ⌜ r ≡ peakOf old e ⌝ }
+    ensures { λ r. ⌜ r ≡ energyPeak old e ⌝ }
 {
     if old < e {
         return e;
@@ -83,7 +77,7 @@ pub fn hear(
 ) -> HeardRest
     requires { ⌜ now table ≡ recombination ⌝ }
     requires { ⌜ (length (now spectra) ≡ 514 * partitions) × (f .head < partitions) × (partitions ≤ 32) ⌝ }
-    ensures { λ r. ⌜ record { answer = record { far = farOf (r .far) (now (window .exit)); «far_is_active» = r .«far_is_active» }; buffer = now (spectra .exit) } ≡ hearFar partitions (farOf f (now (window .entry))) (now (block .entry)) (now (spectra .entry)) ⌝ }
+    ensures { λ r. ⌜ record { far = farOf (r .far) (now (window .exit)); active = r .«far_is_active»; spectra = now (spectra .exit) } ≡ hearFar partitions (farOf f (now (window .entry))) (now (block .entry)) (now (spectra .entry)) ⌝ }
     ensures { λ r. ⌜ r .far .head < partitions ⌝ }
 {
     slide(window, block);

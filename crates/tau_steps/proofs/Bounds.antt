@@ -21,21 +21,18 @@ use Rattle.numbers.specs.Finite.{plus}
 use Rattle.numbers.specs.Order.{minOf}
 use Rattle.numbers.specs.Ranges.{one}
 use Rattle.numbers.proofs.Ordered.{total, min-right, same-of-le}
-use Rattle.tau_state.specs.Constants.{zero64, f0-1, f0-5, f0-75}
+use Rattle.tau_state.specs.Constants.{zero64, f0·1, f0·5, f0·75}
 use Rattle.tau_state.specs.Sums.{energyOf}
-use Rattle.tau_state.specs.After.{Wrote, WroteBoth}
 use Rattle.tau_steps.specs.Clears.{divergeShadow, divergeOf, retireOutput}
 use Rattle.tau_steps.specs.Detector.{countOf, learned, stands, judged}
-use Rattle.tau_steps.specs.Paths.{weighed, leakOf, advantageOf, verdict, settled, acted, compared}
-use Rattle.tau_steps.specs.Guard.{watched, trips, guarded}
+use Rattle.tau_steps.specs.Paths.{weighed, leakOf, advantageOf, verdict, settled, Comparison, acted, compared}
+use Rattle.tau_steps.specs.Guard.{watched, trips, Guarded, guarded}
 use Rattle.tau_state.specs.declared.state.Detector.{Detector}
 use Rattle.tau_state.specs.declared.state.Guard.{Guard}
 use Rattle.tau_state.specs.declared.state.Paths.{Paths}
 use Rattle.tau_state.specs.declared.state.Suppressor.{Suppressor}
 use Rattle.tau_state.specs.declared.report.Outcome.{Outcome}
 use Rattle.tau_state.specs.declared.report.Outcome.the-variants.{NotRun, NoMove, Rescue, Move}
-use Rattle.tau_steps.specs.declared.paths.Compared.{Compared}
-use Rattle.tau_steps.specs.declared.guard.Guarded.{Guarded}
 
 -- ---- the leak
 
@@ -94,7 +91,7 @@ above-lt (fin false m e) h = lt→ltb (0 * down e) (m * up e * 1) (rw (zero-mul,
 -- above 0 and at most 0.75
 pub record Leak (r : Float) : Type 0 where
   pub low : T (lt zero64 r)
-  pub high : T (le r f0-75)
+  pub high : T (le r f0·75)
 
 -- 0.75 times a y from 0.2 to 1
 scaled : (y : Float) → T (le fifth y) → T (le y one) → Leak (mul binary64 most y)
@@ -113,7 +110,7 @@ unfolding minOf le
 capped q h = pick-if (λ r. T (le fifth r)) (isNan q) (λ _. tt) (λ _. pick-if (λ r. T (le fifth r)) (lt one q) (λ _. tt) (λ _. h))
 
 -- The leak from an advantage of 0.1 on.
-pub leak-bounds : (a : Float) → T (le f0-1 a) → Leak (leakOf a)
+pub leak-bounds : (a : Float) → T (le f0·1 a) → Leak (leakOf a)
 unfolding leakOf ofBits div le isNan
 leak-bounds a h =
     let q = div binary64 a half in
@@ -132,7 +129,7 @@ carries q =
     pick-if Carries (leb 8 (q .«rescue_streak»)) (λ _. tt)
     (λ _. pick-if Carries (ltb (q .«quiet_streak») 6) (λ _. tt)
     (λ _. pick-if Carries (lt zero64 (q .«output_error_power»))
-    (λ _. pick-if Carries (le f0-1 (advantageOf q)) (λ h. leak-bounds (advantageOf q) (subst T (sym h) tt)) (λ _. tt))
+    (λ _. pick-if Carries (le f0·1 (advantageOf q)) (λ h. leak-bounds (advantageOf q) (subst T (sym h) tt)) (λ _. tt))
     (λ _. tt)))
 
 -- So of every move, whatever the powers.
@@ -148,7 +145,7 @@ held q f h =
     (λ l. let k : T (le q one) = total one q tt (subst (λ (b : Bool). T (not b)) (sym n) tt) l in same-of-le binary64 q one f tt (between one q one tt tt h k) tt k h))
 
 -- From 0.5 on it is 0.75, at an infinite advantage too.
-pub leak-most : (a : Float) → T (le f0-5 a) → leakOf a ≡ f0-75
+pub leak-most : (a : Float) → T (le f0·5 a) → leakOf a ≡ f0·75
 unfolding leakOf ofBits div le mul
 leak-most a h = ap (mul binary64 most) (held (div binary64 a half) (div-fits binary64 a half) (from half one tt refl tt a h))
 
@@ -175,34 +172,34 @@ rescue-small q =
     pick-if Q (leb 8 (q .«rescue_streak»)) (λ _. omega arith)
     (λ h. let l : q .«rescue_streak» < 8 = leb-false 8 (q .«rescue_streak») h in
     pick-if Q (ltb (q .«quiet_streak») 6) (λ _. l)
-    (λ _. pick-if Q (lt zero64 (q .«output_error_power»)) (λ _. pick-if Q (le f0-1 (advantageOf q)) (λ _. l) (λ _. l)) (λ _. l)))
+    (λ _. pick-if Q (lt zero64 (q .«output_error_power»)) (λ _. pick-if Q (le f0·1 (advantageOf q)) (λ _. l) (λ _. l)) (λ _. l)))
 
 -- whether it runs or not;
 pub compared-streak : (on quiet : Bool) (es eo : List Float) (v : ℕ) (p : Paths) (n : ℕ) (sh ou : List Float) → p .«rescue_streak» < 8
-    → compared on quiet es eo v p n sh ou .answer .paths .«rescue_streak» < 8
+    → compared on quiet es eo v p n sh ou .paths .«rescue_streak» < 8
 unfolding compared acted
 compared-streak on quiet es eo v p n sh ou h =
-    pick-if (λ (r : WroteBoth Compared). r .answer .paths .«rescue_streak» < 8) on
+    pick-if (λ (r : Comparison). r .paths .«rescue_streak» < 8) on
     (λ _. rescue-small (weighed quiet (energyOf es v) (energyOf eo v) p)) (λ _. unfold settled in h)
 
 -- the clears set it to 0,
-pub diverge-shadow-streak : (p : Paths) (m : ℕ) (sh : List Float) → divergeShadow p m sh .answer .paths .«rescue_streak» < 8
+pub diverge-shadow-streak : (p : Paths) (m : ℕ) (sh : List Float) → divergeShadow p m sh .paths .«rescue_streak» < 8
 unfolding divergeShadow
 diverge-shadow-streak p m sh = omega arith
 
-pub diverge-streak : (p : Paths) (u : Suppressor) (m : ℕ) (sh ou : List Float) → divergeOf p u m sh ou .answer .paths .«rescue_streak» < 8
+pub diverge-streak : (p : Paths) (u : Suppressor) (m : ℕ) (sh ou : List Float) → divergeOf p u m sh ou .paths .«rescue_streak» < 8
 unfolding divergeOf
 diverge-streak p u m sh ou = omega arith
 
-pub retire-streak : (x : Float) (p : Paths) (u : Suppressor) (m : ℕ) (ou : List Float) → retireOutput x p u m ou .answer .paths .«rescue_streak» < 8
+pub retire-streak : (x : Float) (p : Paths) (u : Suppressor) (m : ℕ) (ou : List Float) → retireOutput x p u m ou .paths .«rescue_streak» < 8
 unfolding retireOutput
 retire-streak x p u m ou = omega arith
 
 -- and so does the guard where it trips; else it keeps it.
 pub guarded-streak : (near : List Float) (en : Float) (n : ℕ) (g : Guard) (u : Suppressor) (p : Paths) (m : ℕ) (block ou : List Float)
-    → p .«rescue_streak» < 8 → guarded near en n g u p m block ou .answer .paths .«rescue_streak» < 8
+    → p .«rescue_streak» < 8 → guarded near en n g u p m block ou .paths .«rescue_streak» < 8
 unfolding guarded
 guarded-streak near en n g u p m block ou h =
     let w = watched en (energyOf block n) g in
-    pick-if (λ (r : Wrote Guarded). r .answer .paths .«rescue_streak» < 8) (trips w)
+    pick-if (λ (r : Guarded). r .paths .«rescue_streak» < 8) (trips w)
     (λ _. retire-streak (w .«divergence_near_power») p u m ou) (λ _. h)

@@ -10,20 +10,17 @@ use lib.Ieee.{Float, binary64, mul}
 use lib.ListN.{length, length-map, length-replicate}
 use Rattle.laws.specs.Choice.{pick-if}
 use Rattle.laws.specs.Loops.{length-over}
-use Rattle.tau_state.specs.Constants.{zero64, f0-5}
+use Rattle.tau_state.specs.Constants.{zero64, f0·5}
 use Rattle.tau_state.specs.Sums.{energyOf}
-use Rattle.tau_state.specs.After.{Wrote, WroteBoth}
 use Rattle.tau_steps.specs.Weights.{cleared, halved, leaked}
 use Rattle.tau_steps.specs.Clears.{divergeShadow, divergeOf, retireOutput}
-use Rattle.tau_steps.specs.Paths.{weighed, verdict, shadowAfter, outputAfter, acted, compared}
-use Rattle.tau_steps.specs.Guard.{watched, trips, replaced, guarded}
+use Rattle.tau_steps.specs.Paths.{weighed, verdict, shadowAfter, outputAfter, Comparison, acted, compared}
+use Rattle.tau_steps.specs.Guard.{watched, trips, replaced, Guarded, guarded}
 use Rattle.tau_state.specs.declared.state.Guard.{Guard}
 use Rattle.tau_state.specs.declared.state.Paths.{Paths}
 use Rattle.tau_state.specs.declared.state.Suppressor.{Suppressor}
 use Rattle.tau_state.specs.declared.report.Outcome.{Outcome}
 use Rattle.tau_state.specs.declared.report.Outcome.the-variants.{NotRun, NoMove, Rescue, Move}
-use Rattle.tau_steps.specs.declared.paths.Compared.{Compared}
-use Rattle.tau_steps.specs.declared.guard.Guarded.{Guarded}
 
 -- k numbers in the shadow's weights and in the output's
 pub record Level (k : ℕ) (sh ou : List Float) : Type 0 where
@@ -36,13 +33,13 @@ cleared-length d = length-replicate (length d) zero64
 
 halved-length : (d : List Float) → length (halved d) ≡ length d
 unfolding halved
-halved-length d = length-map d (λ x. mul binary64 x f0-5)
+halved-length d = length-map d (λ x. mul binary64 x f0·5)
 
 leaked-length : (leak : Float) (s d : List Float) → length (leaked leak s d) ≡ length d
 unfolding leaked
 leaked-length leak s d = length-over (length d) _ d
 
-pub diverge-shadow-length : (p : Paths) (m : ℕ) (sh : List Float) → length (divergeShadow p m sh .buffer) ≡ length sh
+pub diverge-shadow-length : (p : Paths) (m : ℕ) (sh : List Float) → length (divergeShadow p m sh .shadow) ≡ length sh
 unfolding divergeShadow
 diverge-shadow-length p m sh = cleared-length sh
 
@@ -51,7 +48,7 @@ pub diverge-lengths : (k : ℕ) (p : Paths) (u : Suppressor) (m : ℕ) (sh ou : 
 unfolding divergeOf
 diverge-lengths k p u m sh ou h = record { shadow = cleared-length sh ∙ h .shadow; output = cleared-length ou ∙ h .output }
 
-retire-length : (x : Float) (p : Paths) (u : Suppressor) (m : ℕ) (ou : List Float) → length (retireOutput x p u m ou .buffer) ≡ length ou
+retire-length : (x : Float) (p : Paths) (u : Suppressor) (m : ℕ) (ou : List Float) → length (retireOutput x p u m ou .output) ≡ length ou
 unfolding retireOutput
 retire-length x p u m ou = halved-length ou
 
@@ -72,7 +69,7 @@ pub compared-lengths : (k : ℕ) (on quiet : Bool) (es eo : List Float) (v : ℕ
 unfolding compared
 compared-lengths k on quiet es eo v p n sh ou h =
     let q = weighed quiet (energyOf es v) (energyOf eo v) p in
-    pick-if (λ (r : WroteBoth Compared). Level k (r .shadow) (r .output)) on
+    pick-if (λ (r : Comparison). Level k (r .shadow) (r .output)) on
     (λ _. acted-lengths k (verdict q) q n sh ou h) (λ _. acted-lengths k NoMove p n sh ou h)
 
 replaced-length : (near : List Float) (n : ℕ) (block : List Float) → length (replaced near n block) ≡ length block
@@ -80,15 +77,15 @@ unfolding replaced
 replaced-length near n block = length-over n _ block
 
 pub guarded-length : (near : List Float) (en : Float) (n : ℕ) (g : Guard) (u : Suppressor) (p : Paths) (m : ℕ) (block ou : List Float)
-    → length (guarded near en n g u p m block ou .buffer) ≡ length ou
+    → length (guarded near en n g u p m block ou .output) ≡ length ou
 unfolding guarded
 guarded-length near en n g u p m block ou =
     let w = watched en (energyOf block n) g in
-    pick-if (λ (r : Wrote Guarded). length (r .buffer) ≡ length ou) (trips w) (λ _. retire-length (w .«divergence_near_power») p u m ou) (λ _. refl)
+    pick-if (λ (r : Guarded). length (r .output) ≡ length ou) (trips w) (λ _. retire-length (w .«divergence_near_power») p u m ou) (λ _. refl)
 
 pub guarded-block : (near : List Float) (en : Float) (n : ℕ) (g : Guard) (u : Suppressor) (p : Paths) (m : ℕ) (block ou : List Float)
-    → length (guarded near en n g u p m block ou .answer .block) ≡ length block
+    → length (guarded near en n g u p m block ou .block) ≡ length block
 unfolding guarded
 guarded-block near en n g u p m block ou =
-    pick-if (λ (r : Wrote Guarded). length (r .answer .block) ≡ length block) (trips (watched en (energyOf block n) g))
+    pick-if (λ (r : Guarded). length (r .block) ≡ length block) (trips (watched en (energyOf block n) g))
     (λ _. replaced-length near n block) (λ _. refl)

@@ -5,51 +5,70 @@ use Prim.Native.Nat.{ℕ}
 use lib.ListN.{replicate}
 use lib.Ieee.{Float}
 use Rattle.tau_state.specs.Constants.{zero64, one, oneMore}
-use Rattle.tau_steps.specs.Weights.{cleared, halved}
-use Rattle.tau_state.specs.After.{Wrote, WroteBoth}
 use Rattle.tau_state.specs.declared.state.Paths.{Paths}
 use Rattle.tau_state.specs.declared.state.Suppressor.{Suppressor}
-use Rattle.tau_steps.specs.declared.clears.ShadowCleared.{ShadowCleared}
-use Rattle.tau_steps.specs.declared.clears.OutputCleared.{OutputCleared}
+use Rattle.tau_steps.specs.Weights.{cleared, halved}
 
 -- the suppressor's powers 0 and its gains 1, the window kept
 unfoldable pub released : Suppressor → Suppressor
-released u = record { «echo_power» = replicate 257 zero64; «error_power» = replicate 257 zero64; gain = replicate 257 one; «error_window» = u .«error_window» }
+released suppressor = record {
+  «echo_power» = replicate 257 zero64;
+  «error_power» = replicate 257 zero64;
+  gain = replicate 257 one;
+  «error_window» = suppressor .«error_window»;
+}
+
+pub record ShadowClear : Type 0 where
+  pub paths : Paths
+  pub resets : ℕ
+  pub shadow : List Float
 
 -- `diverge_shadow`: the shadow's error power is then the output's, and no rescue is near
-unfoldable pub divergeShadow : Paths → ℕ → List Float → Wrote ShadowCleared
-divergeShadow p m sh = record {
-  answer = record {
-    paths = record {
-      «shadow_error_power» = p .«output_error_power»;
-      «output_error_power» = p .«output_error_power»;
-      «quiet_streak» = p .«quiet_streak»;
-      «rescue_streak» = 0;
-    };
-    «divergence_resets» = oneMore m;
+unfoldable pub divergeShadow : Paths → ℕ → List Float → ShadowClear
+divergeShadow paths resets shadow = record {
+  paths = record {
+    «shadow_error_power» = paths .«output_error_power»;
+    «output_error_power» = paths .«output_error_power»;
+    «quiet_streak» = paths .«quiet_streak»;
+    «rescue_streak» = 0;
   };
-  buffer = cleared sh;
+  resets = oneMore resets;
+  shadow = cleared shadow;
 }
+
+pub record BothClear : Type 0 where
+  pub paths : Paths
+  pub suppressor : Suppressor
+  pub resets : ℕ
+  pub shadow : List Float
+  pub output : List Float
 
 -- `diverge`: both error powers are 0
-unfoldable pub divergeOf : Paths → Suppressor → ℕ → List Float → List Float → WroteBoth OutputCleared
-divergeOf p u m sh ou = record {
-  answer = record {
-    paths = record { «shadow_error_power» = zero64; «output_error_power» = zero64; «quiet_streak» = p .«quiet_streak»; «rescue_streak» = 0 };
-    suppressor = released u;
-    «divergence_resets» = oneMore m;
-  };
-  shadow = cleared sh;
-  output = cleared ou;
+unfoldable pub divergeOf : Paths → Suppressor → ℕ → List Float → List Float → BothClear
+divergeOf paths suppressor resets shadow output = record {
+  paths = record { «shadow_error_power» = zero64; «output_error_power» = zero64; «quiet_streak» = paths .«quiet_streak»; «rescue_streak» = 0 };
+  suppressor = released suppressor;
+  resets = oneMore resets;
+  shadow = cleared shadow;
+  output = cleared output;
 }
 
--- `retire_output`: "halves the output weights"; the output's error power is then the smoothed near power x
-unfoldable pub retireOutput : Float → Paths → Suppressor → ℕ → List Float → Wrote OutputCleared
-retireOutput x p u m ou = record {
-  answer = record {
-    paths = record { «shadow_error_power» = p .«shadow_error_power»; «output_error_power» = x; «quiet_streak» = p .«quiet_streak»; «rescue_streak» = 0 };
-    suppressor = released u;
-    «divergence_resets» = oneMore m;
+pub record OutputHalved : Type 0 where
+  pub paths : Paths
+  pub suppressor : Suppressor
+  pub resets : ℕ
+  pub output : List Float
+
+-- `retire_output`: "halves the output weights"; the output's error power is then the guard's smoothed near power
+unfoldable pub retireOutput : Float → Paths → Suppressor → ℕ → List Float → OutputHalved
+retireOutput nearPower paths suppressor resets output = record {
+  paths = record {
+    «shadow_error_power» = paths .«shadow_error_power»;
+    «output_error_power» = nearPower;
+    «quiet_streak» = paths .«quiet_streak»;
+    «rescue_streak» = 0;
   };
-  buffer = halved ou;
+  suppressor = released suppressor;
+  resets = oneMore resets;
+  output = halved output;
 }

@@ -1,4 +1,4 @@
--- The house detector.
+-- The house detector (document 01, "House detector"). Definitions only.
 use mathlib.Core.Bool.{Bool, _&&_, _||_}
 use mathlib.Core.List.{List}
 use Prim.Native.Nat.{ℕ, _+_}
@@ -6,54 +6,54 @@ use lib.Dec.{ltb, leb}
 use lib.Ieee.{Float, binary64, sub, mul, div, lt, eq}
 use Rattle.laws.specs.Choice.{pick}
 use Rattle.numbers.specs.Order.{absOf, maxOf, clampOf}
-use Rattle.tau_state.specs.Constants.{zero64, one, f0-01, f0-2, f0-5, f0-8, f0-99, f3, smoothBy}
+use Rattle.tau_state.specs.Constants.{zero64, one, f0·01, f0·2, f0·5, f0·8, f0·99, f3, smoothBy}
 use Rattle.tau_state.specs.Sums.{energyOf, crossOf}
 use Rattle.tau_state.specs.declared.state.Detector.{Detector}
 
--- "c = cross*cross/(near energy*estimate energy); 0 where either energy is 0; 1 where the ratio is not below 1"
+-- "c = cross*cross/(near energy*estimate energy), .. 0 where either energy is 0; 1 where the ratio is not below 1"
 unfoldable pub coherenceOf : Float → Float → Float → Float
-coherenceOf cross near est =
-    let ratio = div binary64 (mul binary64 cross cross) (mul binary64 near est) in
-    pick (eq near zero64) zero64 (pick (eq est zero64) zero64 (pick (lt ratio one) ratio one))
+coherenceOf cross nearEnergy estimateEnergy =
+    let ratio = div binary64 (mul binary64 cross cross) (mul binary64 nearEnergy estimateEnergy) in
+    pick (eq nearEnergy zero64) zero64 (pick (eq estimateEnergy zero64) zero64 (pick (lt ratio one) ratio one))
 
 -- "the count goes up by 1, to 64 at most"
 unfoldable pub countOf : ℕ → ℕ
-countOf n = pick (ltb n 64) (n + 1) 64
+countOf count = pick (ltb count 64) (count + 1) 64
 
 -- "established means 64"
 abbrev pub established : ℕ → Bool
-established n = leb 64 n
+established count = leb 64 count
 
 -- "Baseline = 0.5*baseline + (1-0.5)*c if c is above it, else 0.99*baseline + (1-0.99)*c"
 unfoldable pub baselineOf : Float → Float → Float
-baselineOf b c = pick (lt b c) (smoothBy f0-5 b c) (smoothBy f0-99 b c)
+baselineOf baseline c = pick (lt baseline c) (smoothBy f0·5 baseline c) (smoothBy f0·99 baseline c)
 
 -- "Collapsed: established by the new count, and c < baseline - 3*max(deviation, 0.01)"
 unfoldable pub collapsedOf : ℕ → Float → Float → Float → Bool
-collapsedOf n b d c = established n && lt c (sub binary64 b (mul binary64 f3 (maxOf d f0-01)))
+collapsedOf count baseline deviation c = established count && lt c (sub binary64 baseline (mul binary64 f3 (maxOf deviation f0·01)))
 
--- "Once established, step scale is smooth/0.5 held between 0.01 and 1, and protection is smooth < 0.2. Before, 1 and no."
-unfoldable pub scaleOf : ℕ → Float → Float
-scaleOf n s = pick (established n) (clampOf (div binary64 s f0-5) f0-01 one) one
+-- "Once established, with the new smooth, step scale is smooth/0.5 held between 0.01 and 1, and protection is smooth < 0.2. Before, 1 and no."
+unfoldable pub stepScaleOf : ℕ → Float → Float
+stepScaleOf count smooth = pick (established count) (clampOf (div binary64 smooth f0·5) f0·01 one) one
 
 unfoldable pub protectOf : ℕ → Float → Bool
-protectOf n s = established n && lt s f0-2
+protectOf count smooth = established count && lt smooth f0·2
 
--- a far-active block with coherence c
+-- a far-active block with coherence c; baseline and deviation in `collapsed` "as they were before this block"
 unfoldable pub learned : Detector → Float → Detector
 learned d c =
-    let n = countOf (d .«dtd_blocks») in
-    let s = smoothBy f0-8 (d .«coherence_smooth») c in
-    let x = collapsedOf n (d .«dtd_baseline») (d .«dtd_deviation») c in
+    let count = countOf (d .«dtd_blocks») in
+    let smooth = smoothBy f0·8 (d .«coherence_smooth») c in
+    let collapsed = collapsedOf count (d .«dtd_baseline») (d .«dtd_deviation») c in
     record {
-      «double_talk» = x || protectOf n s;
-      «dtd_collapsed» = x;
-      «protect_output» = protectOf n s;
-      «dtd_blocks» = n;
+      «double_talk» = collapsed || protectOf count smooth;
+      «dtd_collapsed» = collapsed;
+      «protect_output» = protectOf count smooth;
+      «dtd_blocks» = count;
       «dtd_baseline» = baselineOf (d .«dtd_baseline») c;
-      «dtd_deviation» = smoothBy f0-99 (d .«dtd_deviation») (absOf (sub binary64 c (d .«dtd_baseline»)));
-      «coherence_smooth» = s;
-      «step_scale» = scaleOf n s;
+      «dtd_deviation» = smoothBy f0·99 (d .«dtd_deviation») (absOf (sub binary64 c (d .«dtd_baseline»)));
+      «coherence_smooth» = smooth;
+      «step_scale» = stepScaleOf count smooth;
     }
 
 -- "Not far active: nothing changes": the verdict that stands is the block's
@@ -69,6 +69,6 @@ stands d = record {
   «step_scale» = d .«step_scale»;
 }
 
--- the detector after a block: its near samples and the shadow's estimate, over the valid ones
+-- The detector after a block, "cross being the sum of near times shadow estimate over the valid samples in f64".
 unfoldable pub judged : Bool → Float → List Float → List Float → ℕ → Detector → Detector
-judged active energy near est n d = pick active (learned d (coherenceOf (crossOf near est n) energy (energyOf est n))) (stands d)
+judged active nearEnergy near estimate valid d = pick active (learned d (coherenceOf (crossOf near estimate valid) nearEnergy (energyOf estimate valid))) (stands d)

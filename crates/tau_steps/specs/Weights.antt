@@ -4,7 +4,7 @@ use Prim.Native.Nat.{ℕ}
 use lib.ListN.{getD, length, replicate}
 use lib.Ieee.{Float, nan, binary64, add, sub, mul}
 use Rattle.laws.specs.Loops.{over}
-use Rattle.tau_state.specs.Constants.{zero64, f0-5}
+use Rattle.tau_state.specs.Constants.{zero64, f0·5}
 
 -- every number +0.0
 unfoldable pub cleared : List Float → List Float
@@ -12,7 +12,7 @@ cleared d = replicate (length d) zero64
 
 -- every number times 0.5
 unfoldable pub halved : List Float → List Float
-halved d = map (λ x. mul binary64 x f0-5) d
+halved d = map (λ x. mul binary64 x f0·5) d
 
 -- "each weight moves by leak times its difference": every number of d towards s's
 unfoldable pub leaked : Float → List Float → List Float → List Float

@@ -6,7 +6,7 @@ use tau_state::sums::energy;
 use tau_state::sums::smooth;
 ghost use mathlib.Core.Path.{_≡_};
 ghost use Prim.Native.Nat.{_≤_};
-ghost use Rattle.tau_steps.specs.Detector.{coherenceOf, countOf, baselineOf, collapsedOf, scaleOf, protectOf, learned, judged};
+ghost use Rattle.tau_steps.specs.Detector.{coherenceOf, countOf, baselineOf, collapsedOf, stepScaleOf, protectOf, learned, judged};
 
 const COHERENCE_SMOOTHING: f64 = 0.8;
 
@@ -70,7 +70,7 @@ fn collapsed(n: u32, b: f64, d: f64, c: f64) -> bool
 }
 
 fn scale(n: u32, s: f64) -> f64
-    ensures { λ r. ⌜ r ≡ scaleOf n s ⌝ }
+    ensures { λ r. ⌜ r ≡ stepScaleOf n s ⌝ }
 {
     if DTD_ESTABLISH_BLOCKS <= n {
         return numbers::clamp(s / FULL_SPEED_COHERENCE, STEP_SCALE_FLOOR, 1.0);

@@ -85,7 +85,7 @@ fn decide(q: Paths) -> Outcome
 
 fn act(o: Outcome, q: Paths, transfers: u64, shadow: &mut [f64], output: &mut [f64]) -> Compared
     requires { ⌜ length (now shadow) ≡ length (now output) ⌝ }
-    ensures { λ r. ⌜ record { answer = r; shadow = now (shadow .exit); output = now (output .exit) } ≡ acted o q transfers (now (shadow .entry)) (now (output .entry)) ⌝ }
+    ensures { λ r. ⌜ record { paths = r .paths; transfers = r .transfers; rescued = r .rescued; outcome = r .outcome; shadow = now (shadow .exit); output = now (output .exit) } ≡ acted o q transfers (now (shadow .entry)) (now (output .entry)) ⌝ }
 {
     match o {
         Outcome::Rescue => {
@@ -137,7 +137,7 @@ pub fn compare(
 ) -> Compared
     requires { ⌜ valid ≤ 256 ⌝ }
     requires { ⌜ length (now shadow) ≡ length (now output) ⌝ }
-    ensures { λ r. ⌜ record { answer = r; shadow = now (shadow .exit); output = now (output .exit) } ≡ compared on quiet (now («shadow_error» .entry)) (now (error .entry)) valid p transfers (now (shadow .entry)) (now (output .entry)) ⌝ }
+    ensures { λ r. ⌜ record { paths = r .paths; transfers = r .transfers; rescued = r .rescued; outcome = r .outcome; shadow = now (shadow .exit); output = now (output .exit) } ≡ compared on quiet (now («shadow_error» .entry)) (now (error .entry)) valid p transfers (now (shadow .entry)) (now (output .entry)) ⌝ }
 {
     if on {
         let q = weigh(quiet, energy(shadow_error, valid), energy(error, valid), p);

@@ -3,13 +3,13 @@ use tau_state::state::Powers;
 use tau_state::sums::smooth;
 ghost use mathlib.Core.Path.{_≡_};
 ghost use Prim.Native.Nat.{_≤_};
-ghost use Rattle.tau_steps.specs.Powers.{heard, hosted};
+ghost use Rattle.tau_steps.specs.Powers.{followed, hosted};
 
 const ERLE_SMOOTHING: f64 = 0.999;
 
 fn hear_power(s: &[f32; 256], valid: usize, power: f64) -> f64
     requires { ⌜ valid ≤ 256 ⌝ }
-    ensures { λ r. ⌜ r ≡ heard (now (s .entry)) valid power ⌝ }
+    ensures { λ r. ⌜ r ≡ followed (now (s .entry)) valid power ⌝ }
 {
     let mut acc = power;
     let mut i = 0usize;

@@ -13,29 +13,28 @@ use Rattle.numbers.specs.Order.{clampOf}
 use Rattle.complex.specs.declared.Complex.{Complex}
 use Rattle.complex.specs.Complexes.{newC, scaleC}
 use Rattle.fft.specs.Calls.{spectrumOf, samplesOf}
-use Rattle.tau_state.specs.Constants.{zero64, one, f0-0003, f0-1, f0-2, f0-5, f0-7, smoothBy}
+use Rattle.tau_state.specs.Constants.{zero64, one, f0·0003, f0·1, f0·2, f0·5, f0·7, smoothBy}
 use Rattle.tau_state.specs.declared.state.Suppressor.{Suppressor}
 use Rattle.tau_spectra.specs.Bins.{powerAt}
 use Rattle.tau_spectra.specs.Windows.{slid}
 use Rattle.tau_spectra.specs.Windows.{latter}
-use Rattle.tau_suppressor.specs.declared.suppressor.Suppressed.{Suppressed}
 
 -- the powers of a spectrum's bins, smoothed by 0.7
 unfoldable pub powered : List Float → List Float → List Float
-powered s a = over 257 (λ k x. smoothBy f0-7 x (powerAt s k)) a
+powered spectrum powers = over 257 (λ k power. smoothBy f0·7 power (powerAt spectrum k)) powers
 
 -- the target: 1 where protected or where nothing is there, else error power / (error power + 0.0003 * echo power), held between 0.1 and 1
 unfoldable pub targetOf : Bool → Float → Float → Float
 targetOf protect echo err =
-    let sum = add binary64 err (mul binary64 f0-0003 echo) in
-    pick protect one (pick (le sum zero64) one (clampOf (div binary64 err sum) f0-1 one))
+    let denominator = add binary64 err (mul binary64 f0·0003 echo) in
+    pick protect one (pick (le denominator zero64) one (clampOf (div binary64 err denominator) f0·1 one))
 
 -- a gain that rises goes by 0.2, else by 0.5
 unfoldable pub gainOf : Float → Float → Float
-gainOf target g = pick (lt g target) (smoothBy f0-2 g target) (smoothBy f0-5 g target)
+gainOf target gain = pick (lt gain target) (smoothBy f0·2 gain target) (smoothBy f0·5 gain target)
 
 unfoldable pub gained : Bool → List Float → List Float → List Float → List Float
-gained protect echo err g = over 257 (λ k x. gainOf (targetOf protect (getD echo k nan) (getD err k nan)) x) g
+gained protect echo err gains = over 257 (λ k gain. gainOf (targetOf protect (getD echo k nan) (getD err k nan)) gain) gains
 
 -- how many of the bins from k - 4 to k + 4 there are
 unfoldable pub spanOf : ℕ → ℕ
@@ -43,33 +42,44 @@ spanOf k = pick (ltb k 253) (k + 5 - (k - 4)) (257 - (k - 4))
 
 -- n gains from lo on, added in ascending order from +0.0
 unfoldable pub sumFrom : List Float → ℕ → ℕ → Float
-sumFrom g lo n = iter (λ k t. add binary64 t (getD g (lo + k) nan)) zero64 n
+sumFrom gains lo n = iter (λ k total. add binary64 total (getD gains (lo + k) nan)) zero64 n
 
 -- the average of the gains about bin k, "over its own count"
 unfoldable pub averageOf : List Float → ℕ → Float
-averageOf g k = div binary64 (sumFrom g (k - 4) (spanOf k)) (ofInt binary64 (pos (spanOf k)))
+averageOf gains k = div binary64 (sumFrom gains (k - 4) (spanOf k)) (ofInt binary64 (pos (spanOf k)))
 
 unfoldable pub averaged : List Float → List Float
-averaged g = table 257 (averageOf g)
+averaged gains = table 257 (averageOf gains)
 
 -- each bin times its average
 unfoldable pub shaped : List Float → List Float → List Float
-shaped v s = over2 nan 257 (λ k re im. scaleC (newC re im) (getD v k nan) .re) (λ k re im. scaleC (newC re im) (getD v k nan) .im) s
+shaped averages spectrum =
+    over2 nan 257 (λ k re im. scaleC (newC re im) (getD averages k nan) .re) (λ k re im. scaleC (newC re im) (getD averages k nan) .im) spectrum
 
--- "Slide the error window always. Suppressor only if ..": on says whether it runs
+-- what step 7 leaves
+pub record Suppressed : Type 0 where
+  pub suppressor : Suppressor
+  pub block : List Float
+
+-- 7. "Slide the error window always. Suppressor only if .."; runs says whether it does
 unfoldable pub suppressed : Bool → Bool → List Float → List Float → Suppressor → Suppressed
-suppressed on protect error spectrum u =
-    let w = slid (u .«error_window») error in
-    let s = spectrumOf w in
-    let echo = powered spectrum (u .«echo_power») in
-    let err = powered s (u .«error_power») in
-    let g = gained protect echo err (u .gain) in
-    pick on
+suppressed runs protect error estimate suppressor =
+    let window = slid (suppressor .«error_window») error in
+    let spectrum = spectrumOf window in
+    let echo = powered estimate (suppressor .«echo_power») in
+    let err = powered spectrum (suppressor .«error_power») in
+    let gain = gained protect echo err (suppressor .gain) in
+    pick runs
     (record {
-      suppressor = record { «echo_power» = echo; «error_power» = err; gain = g; «error_window» = w };
-      block = latter (samplesOf (shaped (averaged g) s));
+      suppressor = record { «echo_power» = echo; «error_power» = err; gain = gain; «error_window» = window };
+      block = latter (samplesOf (shaped (averaged gain) spectrum));
     })
     (record {
-      suppressor = record { «echo_power» = u .«echo_power»; «error_power» = u .«error_power»; gain = u .gain; «error_window» = w };
+      suppressor = record {
+        «echo_power» = suppressor .«echo_power»;
+        «error_power» = suppressor .«error_power»;
+        gain = suppressor .gain;
+        «error_window» = window;
+      };
       block = error;
     })

@@ -5,7 +5,6 @@ use tau_spectra::bins::put;
 use tau_spectra::transform::later_half;
 use tau_spectra::transform::slide;
 use tau_spectra::transform::spectrum;
-use tau_state::state::Suppressor;
 use tau_state::sums::smooth;
 ghost use mathlib.Core.Path.{_≡_};
 ghost use Prim.Native.Nat.{_≤_, _<_, _+_, _-_};
@@ -25,11 +24,6 @@ const GAIN_SMOOTHING: f64 = 0.5;
 const GAIN_RELEASE_SMOOTHING: f64 = 0.2;
 
 const GAIN_BIN_SPAN: usize = 4;
-
-pub struct Suppressed {
-    pub suppressor: Suppressor,
-    pub block: [f32; 256],
-}
 
 fn bin_powers(s: &[f64; 514], a: &mut [f64; 257])
     ensures { λ _. ⌜ now (a .exit) ≡ powered (now (s .entry)) (now (a .entry)) ⌝ }

@@ -8,7 +8,7 @@ use lib.Ieee.{Float}
 use Rattle.laws.specs.Parts.{part, withPart}
 use Rattle.fft.specs.Calls.{spectrumOf}
 use Rattle.fft.proofs.Sizes.{length-spectrum}
-use Rattle.tau_spectra.specs.Ring.{slotOf}
+use Rattle.tau_spectra.specs.Ring.{slotOf, ringOf}
 use Rattle.tau_update.specs.Update.{Learnt, gradientOf, constrained, stepped, finiteTo, learntAt}
 
 -- a constrained gradient is a spectrum
@@ -27,6 +27,6 @@ pub learnt-turn : (parts head : ℕ) (xs e rates w : List Float) (good : Bool) (
     → v ≡ stepped h y
     → fine ≡ finiteTo v 514
     → w' ≡ withPart 514 p w v
-    → _≡_ {A = Learnt} (record { weights = w'; good = good && fine }) (learntAt parts head xs e rates p (record { weights = w; good = good }))
+    → _≡_ {A = Learnt} (record { weights = w'; finite = good && fine }) (learntAt (ringOf parts head xs) e rates p (record { weights = w; finite = good }))
 unfolding learntAt
 learnt-turn parts head xs e rates w good p e1 e2 e3 e4 e5 e6 e7 e8 = rw (e8, e7, e6, e5, e4, e3, e2, e1)

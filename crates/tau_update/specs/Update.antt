@@ -13,93 +13,99 @@ use Rattle.numbers.specs.Finite.{isFinite}
 use Rattle.complex.specs.declared.Complex.{Complex}
 use Rattle.complex.specs.Complexes.{newC, getC, scaleC}
 use Rattle.fft.specs.Calls.{spectrumOf, samplesOf}
-use Rattle.tau_state.specs.Constants.{zero32, zero64, one, f0-001, f0-02, f0-98, smoothBy}
-use Rattle.tau_state.specs.After.{Wrote}
-use Rattle.tau_steps.specs.Clears.{divergeShadow}
+use Rattle.tau_state.specs.Constants.{zero32, zero64, one, f0·001, f0·02, f0·98, smoothBy}
 use Rattle.tau_state.specs.declared.state.Paths.{Paths}
+use Rattle.tau_steps.specs.Clears.{divergeShadow}
 use Rattle.tau_spectra.specs.Bins.{powerAt}
-use Rattle.tau_spectra.specs.Windows.{slid}
-use Rattle.tau_spectra.specs.Ring.{slotOf}
-use Rattle.tau_update.specs.declared.update.Updated.{Updated}
+use Rattle.tau_spectra.specs.Ring.{Ring, metBy}
+
+-- the shadow's error after as many zeros, which puts the correlation's lags where the gradient needs them
+abbrev pub framed : List Float → List Float
+framed error = replicate 256 zero32 ++ error
 
 -- the far power of each bin: the first n slots added, "by slot" and not by age, from +0.0
 unfoldable pub farPowerTo : List Float → ℕ → List Float
-farPowerTo xs n = iter (λ p acc. over 257 (λ k a. add binary64 a (powerAt (part 514 p xs) k)) acc) (replicate 257 zero64) n
+farPowerTo spectra n = iter (λ slot sum. over 257 (λ k a. add binary64 a (powerAt (part 514 slot spectra) k)) sum) (replicate 257 zero64) n
 
 -- the step factor of a bin, "0.02 to 1": the square of its power's share of its mean; 1 where the mean is not above 0
 unfoldable pub factorOf : Float → Float → Float
 factorOf mean power =
     let share = minOf (div binary64 power mean) one in
-    pick (lt zero64 mean) (maxOf (mul binary64 share share) f0-02) one
+    pick (lt zero64 mean) (maxOf (mul binary64 share share) f0·02) one
 
 -- the bin's step over its power: (1.0 * factor * scale) / (power + 1e-3)
 unfoldable pub rateOf : Float → Float → Float → Float
-rateOf scale mean power = div binary64 (mul binary64 (mul binary64 one (factorOf mean power)) scale) (add binary64 power f0-001)
+rateOf scale mean power = div binary64 (mul binary64 (mul binary64 one (factorOf mean power)) scale) (add binary64 power f0·001)
 
 unfoldable pub ratesOf : Float → List Float → List Float → List Float
 ratesOf scale means powers = table 257 (λ k. rateOf scale (getD means k nan) (getD powers k nan))
 
 -- the means, smoothed by 0.98
 unfoldable pub meansOf : List Float → List Float → List Float
-meansOf powers means = over 257 (λ k mean. smoothBy f0-98 mean (getD powers k nan)) means
+meansOf powers means = over 257 (λ k mean. smoothBy f0·98 mean (getD powers k nan)) means
 
 -- conj(x) * e, bin by bin, as independent products, times the bin's rate
 unfoldable pub gradientAt : List Float → List Float → List Float → ℕ → Complex
-gradientAt x e rates k =
-    let u = getC x k in
-    let v = getC e k in
-    scaleC (newC (add binary64 (mul binary64 (u .re) (v .re)) (mul binary64 (u .im) (v .im))) (sub binary64 (mul binary64 (u .re) (v .im)) (mul binary64 (u .im) (v .re))))
+gradientAt spectrum error rates k =
+    let x = getC spectrum k in
+    let e = getC error k in
+    scaleC (newC (add binary64 (mul binary64 (x .re) (e .re)) (mul binary64 (x .im) (e .im))) (sub binary64 (mul binary64 (x .re) (e .im)) (mul binary64 (x .im) (e .re))))
     (getD rates k nan)
 
 unfoldable pub gradientOf : List Float → List Float → List Float → List Float
-gradientOf x e rates = table2 257 (λ k. gradientAt x e rates k .re) (λ k. gradientAt x e rates k .im)
+gradientOf spectrum error rates = table2 257 (λ k. gradientAt spectrum error rates k .re) (λ k. gradientAt spectrum error rates k .im)
 
 -- the gradient's constraint: in the time domain its second half is 0.0
 unfoldable pub constrained : List Float → List Float
-constrained g = spectrumOf (take 256 (samplesOf g) ++ replicate 256 zero32)
+constrained gradient = spectrumOf (take 256 (samplesOf gradient) ++ replicate 256 zero32)
 
 -- one partition's weights with the gradient added, and whether the first n of them are finite
 unfoldable pub stepped : List Float → List Float → List Float
-stepped g w = over 514 (λ k a. add binary64 a (getD g k nan)) w
+stepped gradient weights = over 514 (λ k w. add binary64 w (getD gradient k nan)) weights
 
 unfoldable pub finiteTo : List Float → ℕ → Bool
-finiteTo w n = iter (λ k good. good && isFinite (getD w k nan)) true n
+finiteTo weights n = iter (λ k fine. fine && isFinite (getD weights k nan)) true n
 
+-- the shadow's weights, and whether all that were written are finite
 pub record Learnt : Type 0 where
   pub weights : List Float
-  pub good : Bool
+  pub finite : Bool
 
-unfoldable pub learntAt : ℕ → ℕ → List Float → List Float → List Float → ℕ → Learnt → Learnt
-learntAt parts head xs e rates p l =
-    let w = stepped (constrained (gradientOf (part 514 (slotOf head parts p) xs) e rates)) (part 514 p (l .weights)) in
-    record { weights = withPart 514 p (l .weights) w; good = l .good && finiteTo w 514 }
+-- partition p: its gradient, constrained, added to its weights
+unfoldable pub learntAt : Ring → List Float → List Float → ℕ → Learnt → Learnt
+learntAt ring error rates p learnt =
+    let new = stepped (constrained (gradientOf (metBy ring p) error rates)) (part 514 p (learnt .weights)) in
+    record { weights = withPart 514 p (learnt .weights) new; finite = learnt .finite && finiteTo new 514 }
 
--- the first n partitions
-unfoldable pub learntTo : ℕ → ℕ → List Float → List Float → List Float → List Float → ℕ → Learnt
-learntTo parts head xs e rates sh n = iter (learntAt parts head xs e rates) (record { weights = sh; good = true }) n
+-- the first n partitions, by the error's spectrum
+unfoldable pub learntTo : Ring → List Float → List Float → List Float → ℕ → Learnt
+learntTo ring error rates shadow n = iter (learntAt ring error rates) (record { weights = shadow; finite = true }) n
 
--- the verdict, when all weights are written: weights that are not finite clear the shadow (`diverge_shadow`)
-unfoldable pub verdictOn : Bool → List Float → Paths → ℕ → List Float → Wrote Updated
-verdictOn good means p m sh =
-    let c = divergeShadow p m sh in
-    pick good
-    (record { answer = record { «far_power_mean» = means; paths = p; «divergence_resets» = m }; buffer = sh })
-    (record {
-      answer = record { «far_power_mean» = means; paths = c .answer .paths; «divergence_resets» = c .answer .«divergence_resets» };
-      buffer = c .buffer;
-    })
+-- what step 6 leaves
+pub record Updated : Type 0 where
+  pub means : List Float
+  pub paths : Paths
+  pub resets : ℕ
+  pub shadow : List Float
 
--- all partitions, by the shadow's error
-abbrev pub learntBy : ℕ → ℕ → List Float → List Float → Float → List Float → List Float → Learnt
-learntBy parts head xs error scale means sh =
-    -- the error after as many zeros, which puts the correlation's lags where the gradient needs them
-    let e = spectrumOf (slid (replicate 512 zero32) error) in
-    learntTo parts head xs e (ratesOf scale means (farPowerTo xs parts)) sh parts
+-- 6. "Update of the shadow, unless .."; runs says whether it does. In the Rust's order: the spectrum of the shadow's error, the far
+-- power of each bin, each bin's rate by the means as they were, the new means, the weights partition by partition, and the verdict when
+-- all are written: where one is not finite the shadow is cleared (`diverge_shadow`).
+unfoldable pub updated : Bool → Ring → List Float → Float → List Float → Paths → ℕ → List Float → Updated
+updated runs ring error scale means paths resets shadow =
+    let spectrum = spectrumOf (framed error) in
+    let powers = farPowerTo (ring .spectra) (ring .partitions) in
+    let rates = ratesOf scale means powers in
+    let newMeans = meansOf powers means in
+    let learnt = learntTo ring spectrum rates shadow (ring .partitions) in
+    let clear = divergeShadow paths resets (learnt .weights) in
+    pick runs
+    (pick (learnt .finite)
+    (record { means = newMeans; paths = paths; resets = resets; shadow = learnt .weights })
+    (record { means = newMeans; paths = clear .paths; resets = clear .resets; shadow = clear .shadow }))
+    (record { means = means; paths = paths; resets = resets; shadow = shadow })
 
--- "Update of the shadow, unless ..": on says whether it runs
-unfoldable pub updated : Bool → ℕ → ℕ → List Float → List Float → Float → List Float → Paths → ℕ → List Float → Wrote Updated
-updated on parts head xs error scale means p m sh =
-    let l = learntBy parts head xs error scale means sh in
-    pick on
-    (verdictOn (l .good) (meansOf (farPowerTo xs parts) means) p m (l .weights))
-    (record { answer = record { «far_power_mean» = means; paths = p; «divergence_resets» = m }; buffer = sh })
+-- what the partitions learn in it, for theorems that speak of the verdict
+abbrev pub learntBy : Ring → List Float → Float → List Float → List Float → Learnt
+learntBy ring error scale means shadow =
+    learntTo ring (spectrumOf (framed error)) (ratesOf scale means (farPowerTo (ring .spectra) (ring .partitions))) shadow (ring .partitions)

@@ -18,10 +18,10 @@ ghost use Rattle.laws.specs.Loops.{over};
 ghost use Rattle.trig.specs.Tables.{recombination};
 ghost use Rattle.fft.specs.Calls.{spectrumOf};
 ghost use Rattle.tau_state.specs.Constants.{zero32};
-ghost use Rattle.tau_update.specs.Lent.{updatedOf};
-ghost use Rattle.tau_spectra.specs.Windows.{slid};
+ghost use Rattle.tau_spectra.specs.Ring.{ringOf};
+ghost use Rattle.tau_update.specs.Lent.{updatedOf, verdictOn};
 ghost use Rattle.tau_spectra.specs.Bins.{powerAt};
-ghost use Rattle.tau_update.specs.Update.{farPowerTo, factorOf, rateOf, ratesOf, meansOf, gradientOf, constrained, stepped, finiteTo, learntTo, verdictOn, updated};
+ghost use Rattle.tau_update.specs.Update.{farPowerTo, factorOf, rateOf, ratesOf, meansOf, gradientOf, constrained, stepped, finiteTo, framed, learntTo, updated};
 
 const STEP_SIZE: f64 = 1.0;
 
@@ -30,12 +30,6 @@ const STEP_POWER_SMOOTHING: f64 = 0.98;
 const MIN_STEP_FRACTION: f64 = 0.02;
 
 const REGULARIZATION: f64 = 1e-3;
-
-pub struct Updated {
-    pub far_power_mean: [f64; 257],
-    pub paths: Paths,
-    pub divergence_resets: u64,
-}
 
 // One slot's powers, bin by bin onto the sum.
 fn add_powers(acc: &mut [f64; 257], x: &[f64])
@@ -168,7 +162,7 @@ fn learn(
 ) -> bool
     requires { ⌜ now table ≡ recombination ⌝ }
     requires { ⌜ (length (now shadow) ≡ 514 * parts) × (length (now xs) ≡ 514 * parts) × (head < parts) × (parts ≤ 32) ⌝ }
-    ensures { λ r. ⌜ record { weights = now (shadow .exit); good = r } ≡ learntTo parts head (now (xs .entry)) (now (e .entry)) (now (rates .entry)) (now (shadow .entry)) parts ⌝ }
+    ensures { λ r. ⌜ record { weights = now (shadow .exit); finite = r } ≡ learntTo (ringOf parts head (now (xs .entry))) (now (e .entry)) (now (rates .entry)) (now (shadow .entry)) parts ⌝ }
 {
     let mut g = [0.0f64; 514];
     let mut lags = [0.0f32; 512];
@@ -202,7 +196,7 @@ fn error_spectrum(
     bins: &mut [f64; 514],
 )
     requires { ⌜ now table ≡ recombination ⌝ }
-    ensures { λ _. ⌜ now (bins .exit) ≡ spectrumOf (slid (replicate 512 zero32) (now (error .entry))) ⌝ }
+    ensures { λ _. ⌜ now (bins .exit) ≡ spectrumOf (framed (now (error .entry))) ⌝ }
 {
     let mut framed = [0.0f32; 512];
     slide(&mut framed, error);
@@ -237,7 +231,7 @@ pub fn adapt_shadow(
 ) -> UpdatedRest
     requires { ⌜ now table ≡ recombination ⌝ }
     requires { ⌜ (length (now shadow) ≡ 514 * parts) × (length (now xs) ≡ 514 * parts) × (head < parts) × (parts ≤ 32) ⌝ }
-    ensures { λ r. ⌜ record { answer = updatedOf r (now (means .exit)); buffer = now (shadow .exit) } ≡ updated on parts head (now (xs .entry)) (now (error .entry)) scale (now (means .entry)) p resets (now (shadow .entry)) ⌝ }
+    ensures { λ r. ⌜ updatedOf r (now (means .exit)) (now (shadow .exit)) ≡ updated on (ringOf parts head (now (xs .entry))) (now (error .entry)) scale (now (means .entry)) p resets (now (shadow .entry)) ⌝ }
 {
     if on {
         let mut e = [0.0f64; 514];
@@ -254,7 +248,7 @@ pub fn adapt_shadow(
 }
 
 fn judge(good: bool, means: &[f64; 257], p: Paths, resets: u64, shadow: &mut [f64]) -> UpdatedRest
-    ensures { λ r. ⌜ record { answer = updatedOf r (now (means .entry)); buffer = now (shadow .exit) } ≡ verdictOn good (now (means .entry)) p resets (now (shadow .entry)) ⌝ }
+    ensures { λ r. ⌜ updatedOf r (now (means .entry)) (now (shadow .exit)) ≡ verdictOn good (now (means .entry)) p resets (now (shadow .entry)) ⌝ }
 {
     if good {
         return UpdatedRest {

@@ -1,4 +1,4 @@
-use Rattle.tau_block.specs.Block.{delivered}
+use Rattle.tau_block.specs.Groups.{delivered}
 use borrow.Author.Needs.{needs}
 use Rattle.tau_block.proofs.block.deliver.Statement.{statement}
 use Rattle.tau_block.proofs.block.deliver.Tie as tie

@@ -1,4 +1,4 @@
-use Rattle.tau_block.specs.Block.{filtered}
+use Rattle.tau_block.specs.Groups.{filtered}
 use borrow.Author.Needs.{needs}
 use Rattle.tau_block.proofs.block.filter.Statement.{statement}
 use Rattle.tau_block.proofs.block.filter.Tie as tie

@@ -1,14 +1,16 @@
 use Rattle.tau_filter.specs.Filter.{echoTo}
+use Rattle.tau_spectra.specs.Ring.{ringOf}
 use mathlib.Core.Path.{_≡_, refl}
 use Prim.Native.Nat.{_-_, _+_, _≤_}
-use Rattle.laws.specs.Loops.{loops, iter-more}
+use Rattle.laws.specs.Loops.{loops, iter-next}
 use Rattle.laws.specs.Parts.{part-is}
 use Rattle.tau_filter.proofs.filter.echo.Statement.{statement}
 use Rattle.tau_filter.proofs.filter.echo.Tie as tie
+use Rattle.tau_filter.proofs.Adding.{echo-turn}
 use borrow.Author.Needs.{needs}
 
 abbrev Inv-loop : tie.InvT-loop
-Inv-loop ws xs head parts acc₀ p₀ acc p = (p ≤ parts) × (acc ≡ echoTo ws xs head parts p)
+Inv-loop ws xs head parts acc₀ p₀ acc p = (p ≤ parts) × (acc ≡ echoTo ws (ringOf parts head xs) p)
 
 abbrev μ-loop : tie.MeasureT-loop
 μ-loop ws xs head parts acc₀ p₀ acc p = parts - p
@@ -35,5 +37,5 @@ echo-spec =
     (λ c κs. search needs)
     (λ c. search needs)
     (λ c. search needs)
-    (λ c. (search needs, rw iter-more (cc (part-is 514 _ _ _ refl))))
+    (λ c. (search needs, iter-next _ _ _ (c .before .before .before .before .before .before .loop .inv .1) (echo-turn _ _ _ _ _ _ (c .before .before .before .before .slot-of .ensures .0) (part-is 514 _ _ _ refl) (part-is 514 _ _ _ refl) (c .multiply-add .ensures))))
     (λ c. search (needs, loops)))

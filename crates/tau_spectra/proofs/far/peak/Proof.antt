@@ -1,11 +1,11 @@
-use Rattle.tau_spectra.specs.Far.{peakOf}
+use Rattle.tau_spectra.specs.Far.{energyPeak}
 use Rattle.laws.specs.Choice.{choices}
 use Rattle.tau_spectra.proofs.far.peak.Statement.{statement}
 use Rattle.tau_spectra.proofs.far.peak.Tie as tie
 use borrow.Author.Needs.{needs}
 
 pub peak-spec : {M : Type 1} → statement M
-unfolding peakOf
+unfolding energyPeak
 peak-spec =
     tie.close
     (tie.spec

@@ -1,4 +1,4 @@
-use Rattle.tau_steps.specs.Detector.{scaleOf}
+use Rattle.tau_steps.specs.Detector.{stepScaleOf}
 use Rattle.laws.specs.Choice.{pick}
 use borrow.Author.Tests.{le-leb, lt-leb}
 use borrow.Author.Needs.{needs}
@@ -6,7 +6,7 @@ use Rattle.tau_steps.proofs.detector.scale.Statement.{statement}
 use Rattle.tau_steps.proofs.detector.scale.Tie as tie
 
 pub scale-spec : {M : Type 1} → statement M
-unfolding scaleOf pick
+unfolding stepScaleOf pick
 scale-spec =
     tie.close
     (tie.spec

@@ -1,19 +1,19 @@
 use mathlib.Core.Path.{_≡_}
 use Prim.Native.Nat.{_-_, _≤_}
 use Rattle.laws.specs.Loops.{loops, iter-more}
-use Rattle.tau_steps.specs.Powers.{heard}
+use Rattle.tau_steps.specs.Powers.{followed}
 use borrow.Author.Needs.{needs}
 use Rattle.tau_steps.proofs.powers.hear_power.Statement.{statement}
 use Rattle.tau_steps.proofs.powers.hear_power.Tie as tie
 
 abbrev Inv-loop : tie.InvT-loop
-Inv-loop s valid power acc₀ i₀ acc i = (i ≤ valid) × (acc ≡ heard s i acc₀)
+Inv-loop s valid power acc₀ i₀ acc i = (i ≤ valid) × (acc ≡ followed s i acc₀)
 
 abbrev μ-loop : tie.MeasureT-loop
 μ-loop s valid power acc₀ i₀ acc i = valid - i
 
 pub hear-power-spec : {M : Type 1} → statement M
-unfolding heard
+unfolding followed
 hear-power-spec =
     tie.close
     (tie.spec Inv-loop μ-loop

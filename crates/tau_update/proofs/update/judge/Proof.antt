@@ -1,11 +1,9 @@
-use Rattle.tau_update.specs.Update.{verdictOn}
 use Rattle.laws.specs.Choice.{pick-yes, pick-no}
 use borrow.Author.Needs.{needs}
 use Rattle.tau_update.proofs.update.judge.Statement.{statement}
 use Rattle.tau_update.proofs.update.judge.Tie as tie
 
 pub judge-spec : {M : Type 1} → statement M
-unfolding verdictOn
 judge-spec =
     tie.close
     (tie.spec

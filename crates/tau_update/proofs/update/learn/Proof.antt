@@ -1,3 +1,4 @@
+use Rattle.tau_spectra.specs.Ring.{ringOf}
 use Rattle.tau_update.specs.Update.{Learnt, learntTo}
 use mathlib.Core.Path.{_≡_, refl, ap, _∙_}
 use Prim.Native.Nat.{_-_, _*_, _≤_}
@@ -13,7 +14,7 @@ use Rattle.tau_update.proofs.update.learn.Tie as tie
 
 abbrev Inv-loop : tie.InvT-loop
 Inv-loop table scratch₀ parts head xs e rates shadow₀ g₀ lags₀ good₀ p₀ scratch shadow g lags good p =
-    (p ≤ parts) × (length shadow ≡ 514 * parts) × (length g ≡ 514) × (length lags ≡ 512) × (drop 256 lags ≡ replicate 256 zero32) × (_≡_ {A = Learnt} (record { weights = shadow; good = good }) (learntTo parts head xs e rates shadow₀ p))
+    (p ≤ parts) × (length shadow ≡ 514 * parts) × (length g ≡ 514) × (length lags ≡ 512) × (drop 256 lags ≡ replicate 256 zero32) × (_≡_ {A = Learnt} (record { weights = shadow; finite = good }) (learntTo (ringOf parts head xs) e rates shadow₀ p))
 
 abbrev μ-loop : tie.MeasureT-loop
 μ-loop table scratch₀ parts head xs e rates shadow₀ g₀ lags₀ good₀ p₀ scratch shadow g lags good p = parts - p

@@ -3,14 +3,14 @@ use mathlib.Core.Path.{_≡_, _∙_}
 use Prim.Native.Nat.{_-_, _+_, _≤_}
 use lib.Ieee.{nan}
 use lib.ListN.{getD}
-use Rattle.tau_state.specs.Constants.{f0-98, smoothBy}
+use Rattle.tau_state.specs.Constants.{f0·98, smoothBy}
 use Rattle.laws.specs.Loops.{loops, over, over-turn}
 use borrow.Author.Needs.{needs}
 use Rattle.tau_update.proofs.update.new_means.Statement.{statement}
 use Rattle.tau_update.proofs.update.new_means.Tie as tie
 
 abbrev Inv-loop : tie.InvT-loop
-Inv-loop powers t₀ k₀ t k = (k ≤ 257) × (t ≡ over k (λ j mean. smoothBy f0-98 mean (getD powers j nan)) t₀)
+Inv-loop powers t₀ k₀ t k = (k ≤ 257) × (t ≡ over k (λ j mean. smoothBy f0·98 mean (getD powers j nan)) t₀)
 
 abbrev μ-loop : tie.MeasureT-loop
 μ-loop powers t₀ k₀ t k = 257 - k

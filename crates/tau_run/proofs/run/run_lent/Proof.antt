@@ -1,8 +1,8 @@
 use Rattle.tau_block.specs.Block.{runBlock}
 use native.Mathlib.Omega.{arith}
 use borrow.Author.Needs.{needs}
-use Rattle.tau_block.proofs.block.run_lent.Statement.{statement}
-use Rattle.tau_block.proofs.block.run_lent.Tie as tie
+use Rattle.tau_run.proofs.run.run_lent.Statement.{statement}
+use Rattle.tau_run.proofs.run.run_lent.Tie as tie
 
 pub run-lent-spec : {M : Type 1} → statement M
 unfolding runBlock

@@ -1,0 +1,28 @@
+-- A block reads no carry, and leaves it as it was. Assumes nothing.
+use mathlib.Core.Bool.{Bool}
+use mathlib.Core.List.{List}
+use mathlib.Core.Path.{_≡_, ap}
+use Prim.Native.Nat.{ℕ}
+use lib.Ieee.{Float}
+use Rattle.tau_state.specs.Lent.{stateOf}
+use Rattle.tau_state.specs.declared.state.Far.{Far}
+use Rattle.tau_state.specs.declared.state.Mic.{Mic}
+use Rattle.tau_state.specs.declared.report.Outcome.{Outcome}
+use Rattle.tau_block.specs.Block.{Block, Engine, Ran, runBlock}
+use Rattle.tau_run.specs.Lent.{uncarried, ranOf}
+
+-- the engine with a carry
+abbrev pub carrying : ℕ → Bool → ℕ → List Float → List Float → Far → Mic → List Float → List Float → List Float → Engine
+carrying parts flag k ns fs far mic sh ou xs = record { state = stateOf parts flag k ns fs far mic; shadow = sh; output = ou; spectra = xs }
+
+pub run-carried : (parts : ℕ) (flag : Bool) (k : ℕ) (ns fs : List Float) (f : Far) (m : Mic) (far : List Float) (b : Block) (sh ou xs : List Float)
+    {f' : Far} {m' : Mic} {block : List Float} {outcome : Outcome} {sh' ou' xs' : List Float}
+    → ranOf (uncarried parts flag f' m' sh' ou' xs') block outcome ≡ runBlock (uncarried parts flag f m sh ou xs) far b
+    → ranOf (carrying parts flag k ns fs f' m' sh' ou' xs') block outcome ≡ runBlock (carrying parts flag k ns fs f m sh ou xs) far b
+unfolding runBlock
+run-carried parts flag k ns fs f m far b sh ou xs e =
+    ap
+    (λ (r : Ran).
+    let a = r .engine in
+    ranOf (carrying parts flag k ns fs (a .state .far) (a .state .mic) (a .shadow) (a .output) (a .spectra)) (r .block) (r .outcome))
+    e
