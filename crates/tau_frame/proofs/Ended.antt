@@ -12,28 +12,28 @@ use lib.Seq.{take-at, drop-at, length-take-le}
 use Rattle.laws.specs.Choice.{pick-no}
 use Rattle.tau_state.specs.declared.state.TauCanceller.{TauCanceller}
 use Rattle.tau_block.specs.Block.{Ran, runBlock}
-use Rattle.tau_frame.specs.Pairs.{Engine, Run, carrying, blockOf, padded, flushedOf}
+use Rattle.tau_frame.specs.Pairs.{Engine, Run, emptied, blockOf, padded, flushedOf}
 use Rattle.tau_frame.proofs.Going.{block-long}
 
 pub record Flushed (s : TauCanceller) (sh ou xs out : List Float) (r : Ran) (out' : List Float) : Type 0 where
   pub run : _≡_ {A = Run} (record {
-    engine = record { state = r .answer .state; shadow = r .shadow; output = r .output; spectra = r .spectra };
+    engine = r .engine;
     samples = take (s .carried) out';
-    last = r .answer .outcome;
+    last = r .outcome;
   }) (flushedOf (record { state = s; shadow = sh; output = ou; spectra = xs }))
   pub tail : drop (s .carried) out' ≡ drop (s .carried) out
   pub room : s .carried ≤ length out'
 
 pub flush-is : (s : TauCanceller) (sh ou xs out pn pf : List Float) → pn ≡ padded (s .«near_carry») (s .carried) → pf ≡ padded (s .«far_carry») (s .carried)
     → (s .carried ≡ 0 → ⊥) → s .carried ≤ 255 → s .carried ≤ length out
-    → (r : Ran) → r ≡ runBlock (carrying s (s .«near_carry») (s .«far_carry») 0) pn pf (s .carried) false sh ou xs
-    → (out' : List Float) → out' ≡ take 0 out ++ (take (s .carried) (r .answer .block) ++ drop (0 + s .carried) out)
+    → (r : Ran) → r ≡ runBlock (emptied (record { state = s; shadow = sh; output = ou; spectra = xs })) pf (record { near = pn; valid = s .carried; adapt = false })
+    → (out' : List Float) → out' ≡ take 0 out ++ (take (s .carried) (r .block) ++ drop (0 + s .carried) out)
     → Flushed s sh ou xs out r out'
 unfolding flushedOf blockOf
 flush-is s sh ou xs out pn pf en ef h few room r er out' eo =
     let n = s .carried in
-    let blk = r .answer .block in
-    let l : length (take n blk) ≡ n = length-take-le n blk (block-long _ _ _ _ _ _ _ _ r er n (omega arith)) in
+    let blk = r .block in
+    let l : length (take n blk) ≡ n = length-take-le n blk (block-long _ _ _ r er n (omega arith)) in
     let split : out' ≡ take n blk ++ drop n out = eo ∙ ap (λ (i : ℕ). take n blk ++ drop i out) (zero-add n) in
     let made : take n out' ≡ take n blk = ap (take n) split ∙ take-at (take n blk) (drop n out) n l in
     record {

@@ -13,14 +13,8 @@ use Rattle.tau_state.specs.Constants.{zero32}
 use Rattle.tau_state.specs.declared.state.TauCanceller.{TauCanceller}
 use Rattle.tau_state.specs.declared.report.Outcome.{Outcome}
 use Rattle.tau_state.specs.declared.report.Outcome.the-variants.{NotRun, NoMove, Rescue, Move}
-use Rattle.tau_block.specs.Block.{Ran, runBlock}
-
--- the engine whole: its state and the three lent buffers
-pub record Engine : Type 0 where
-  pub state : TauCanceller
-  pub shadow : List Float
-  pub output : List Float
-  pub spectra : List Float
+use Rattle.tau_block.specs.Block.{runBlock}
+pub use Rattle.tau_block.specs.Block.{Engine}
 
 -- what pairs, or a flush, make of it: the engine after them, the samples delivered, and what the last block did
 pub record Run : Type 0 where
@@ -44,16 +38,17 @@ carrying s ns fs n = record {
   mic = s .mic;
 }
 
+-- nothing carried; what stood in the carry is left there, and no longer read
+abbrev pub emptied : Engine → Engine
+emptied e =
+    let s = e .state in
+    record { state = carrying s (s .«near_carry») (s .«far_carry») 0; shadow = e .shadow; output = e .output; spectra = e .spectra }
+
 -- a block, after which the carry is empty: of near and far the first n are valid, and these are delivered; adapt says that it is no flush
 unfoldable pub blockOf : Engine → List Float → List Float → ℕ → Bool → Run
 blockOf e near far n adapt =
-    let s = e .state in
-    let r = runBlock (carrying s (s .«near_carry») (s .«far_carry») 0) near far n adapt (e .shadow) (e .output) (e .spectra) in
-    record {
-      engine = record { state = r .answer .state; shadow = r .shadow; output = r .output; spectra = r .spectra };
-      samples = take n (r .answer .block);
-      last = r .answer .outcome;
-    }
+    let ran = runBlock (emptied e) far (record { near = near; valid = n; adapt = adapt }) in
+    record { engine = ran .engine; samples = take n (ran .block); last = ran .outcome }
 
 -- the pair in the carry, at its end
 abbrev pub placed : TauCanceller → Float → Float → TauCanceller
