@@ -1,1 +1,2 @@
 pub mod Tau
+pub mod Promises

@@ -5,25 +5,21 @@ mod tau_calls;
 use rho::Answer;
 use rho::RhoCanceller;
 use rho::Started;
-ghost use mathlib.Core.Path.{_≡_};
-ghost use mathlib.Core.Bool.{true, false};
-ghost use mathlib.Core.List.{[]};
-ghost use lib.Ieee.{binary32, toBits};
-ghost use Rattle.numbers.specs.Narrowing.{narrowOf};
-ghost use Rattle.complex_fft.specs.Calls.{complexOf};
-ghost use Rattle.fft.specs.Calls.{forwardOf, inverseOf};
-ghost use Rattle.rho.specs.Calls.{createOf, processOf, flushOf, resetOf};
+ghost use Rattle.numbers.specs.Promises.{Narrow, NarrowBits};
+ghost use Rattle.complex_fft.specs.Promises.{ComplexForward, ComplexInverse};
+ghost use Rattle.fft.specs.Promises.{Forward, Inverse};
+ghost use Rattle.rho.specs.Promises.{Create, Process, Flush, Reset};
 
 #[no_mangle]
 pub extern "C" fn aspeyruni_narrow(x: f64) -> f32
-    ensures { λ r. ⌜ r ≡ narrowOf x ⌝ }
+    ensures { λ r. ⌜ Narrow x r ⌝ }
 {
     numbers::narrow(x)
 }
 
 #[no_mangle]
 pub extern "C" fn aspeyruni_narrow_bits(x: f64) -> u32
-    ensures { λ r. ⌜ r ≡ toBits binary32 (narrowOf x) ⌝ }
+    ensures { λ r. ⌜ NarrowBits x r ⌝ }
 {
     numbers::narrow_bits(x)
 }
@@ -31,7 +27,7 @@ pub extern "C" fn aspeyruni_narrow_bits(x: f64) -> u32
 // 512 samples to 514 numbers, 257 bins real part then imaginary. 0, or 2 with nothing written where a length is wrong.
 #[no_mangle]
 pub extern "C" fn aspeyruni_forward(input: &[f32], out: &mut [f64]) -> u32
-    ensures { λ r. ⌜ record { answer = r; out = now (out .exit) } ≡ forwardOf (now (input .entry)) (now (out .entry)) ⌝ }
+    ensures { λ r. ⌜ Forward (now (input .entry)) (now (out .entry)) r (now (out .exit)) ⌝ }
 {
     fft::forward(input, out)
 }
@@ -39,7 +35,7 @@ pub extern "C" fn aspeyruni_forward(input: &[f32], out: &mut [f64]) -> u32
 // 514 numbers to 512 samples. 0, or 2 with nothing written where a length is wrong.
 #[no_mangle]
 pub extern "C" fn aspeyruni_inverse(spectrum: &[f64], out: &mut [f32]) -> u32
-    ensures { λ r. ⌜ record { answer = r; out = now (out .exit) } ≡ inverseOf (now (spectrum .entry)) (now (out .entry)) ⌝ }
+    ensures { λ r. ⌜ Inverse (now (spectrum .entry)) (now (out .entry)) r (now (out .exit)) ⌝ }
 {
     fft::inverse(spectrum, out)
 }
@@ -47,14 +43,14 @@ pub extern "C" fn aspeyruni_inverse(spectrum: &[f64], out: &mut [f32]) -> u32
 // 256 points in place, 512 numbers. 0, or 2 with nothing written where the length is wrong.
 #[no_mangle]
 pub extern "C" fn aspeyruni_complex_forward(points: &mut [f64]) -> u32
-    ensures { λ r. ⌜ record { answer = r; out = now (points .exit) } ≡ complexOf false (now (points .entry)) ⌝ }
+    ensures { λ r. ⌜ ComplexForward (now (points .entry)) r (now (points .exit)) ⌝ }
 {
     complex_fft::complex_forward(points)
 }
 
 #[no_mangle]
 pub extern "C" fn aspeyruni_complex_inverse(points: &mut [f64]) -> u32
-    ensures { λ r. ⌜ record { answer = r; out = now (points .exit) } ≡ complexOf true (now (points .entry)) ⌝ }
+    ensures { λ r. ⌜ ComplexInverse (now (points .entry)) r (now (points .exit)) ⌝ }
 {
     complex_fft::complex_inverse(points)
 }
@@ -66,7 +62,7 @@ pub extern "C" fn aspeyruni_rho_create(
     weights: &mut [f32],
     history: &mut [f32],
 ) -> Started
-    ensures { λ r. ⌜ record { answer = r; weights = now (weights .exit); history = now (history .exit) } ≡ createOf «sample_rate» «tail_ms» (now (weights .entry)) (now (history .entry)) ⌝ }
+    ensures { λ r. ⌜ Create «sample_rate» «tail_ms» (now (weights .entry)) (now (history .entry)) r (now (weights .exit)) (now (history .exit)) ⌝ }
 {
     rho::create(sample_rate, tail_ms, weights, history)
 }
@@ -80,14 +76,14 @@ pub extern "C" fn aspeyruni_rho_process(
     far: &[f32],
     out: &mut [f32],
 ) -> Answer
-    ensures { λ r. ⌜ record { answer = r; weights = now (weights .exit); history = now (history .exit); out = now (out .exit) } ≡ processOf (record { state = s; weights = now (weights .entry); history = now (history .entry) }) (now (near .entry)) (now (far .entry)) (now (out .entry)) ⌝ }
+    ensures { λ r. ⌜ Process (record { state = s; weights = now (weights .entry); history = now (history .entry) }) (now (near .entry)) (now (far .entry)) (now (out .entry)) r (now (weights .exit)) (now (history .exit)) (now (out .exit)) ⌝ }
 {
     rho::process(s, weights, history, near, far, out)
 }
 
 #[no_mangle]
 pub extern "C" fn aspeyruni_rho_flush(s: RhoCanceller, weights: &[f32], history: &[f32]) -> Answer
-    ensures { λ r. ⌜ record { answer = r; weights = now (weights .entry); history = now (history .entry); out = [] } ≡ flushOf (record { state = s; weights = now (weights .entry); history = now (history .entry) }) ⌝ }
+    ensures { λ r. ⌜ Flush (record { state = s; weights = now (weights .entry); history = now (history .entry) }) r ⌝ }
 {
     rho::flush(s, weights, history)
 }
@@ -98,7 +94,7 @@ pub extern "C" fn aspeyruni_rho_reset(
     weights: &mut [f32],
     history: &mut [f32],
 ) -> Started
-    ensures { λ r. ⌜ record { answer = r; weights = now (weights .exit); history = now (history .exit) } ≡ resetOf (record { state = s; weights = now (weights .entry); history = now (history .entry) }) ⌝ }
+    ensures { λ r. ⌜ Reset (record { state = s; weights = now (weights .entry); history = now (history .entry) }) r (now (weights .exit)) (now (history .exit)) ⌝ }
 {
     rho::reset(s, weights, history)
 }

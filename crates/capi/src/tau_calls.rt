@@ -5,8 +5,9 @@ use tau_state::report::leak_of;
 use tau_state::report::number;
 use tau_state::state::TauCanceller;
 ghost use mathlib.Core.Path.{_≡_};
-ghost use Rattle.tau.specs.Calls.{createOf, processOf, flushOf, resetOf};
-ghost use Rattle.capi.specs.Tau.{numbersOf, hostedOf};
+ghost use Rattle.tau.specs.Promises.{Create, Reset};
+ghost use Rattle.capi.specs.Tau.{numbersOf};
+ghost use Rattle.capi.specs.Promises.{TauProcess, TauFlush};
 
 // What process and flush answer, and then their report. The outcome: 0 no block run, 1 no move, 2 a rescue, 3 a move; the leak is that of
 // a move, and 0.0 where there is none.
@@ -48,7 +49,7 @@ pub extern "C" fn aspeyruni_tau_create(
     output: &mut [f64],
     spectra: &mut [f64],
 ) -> Started
-    ensures { λ r. ⌜ record { answer = r; shadow = now (shadow .exit); output = now (output .exit); spectra = now (spectra .exit) } ≡ createOf partitions suppress (now (shadow .entry)) (now (output .entry)) (now (spectra .entry)) ⌝ }
+    ensures { λ r. ⌜ Create partitions suppress (now (shadow .entry)) (now (output .entry)) (now (spectra .entry)) r (now (shadow .exit)) (now (output .exit)) (now (spectra .exit)) ⌝ }
 {
     tau::create(partitions, suppress, shadow, output, spectra)
 }
@@ -63,7 +64,7 @@ pub extern "C" fn aspeyruni_tau_process(
     far: &[f32],
     out: &mut [f32],
 ) -> TauAnswer
-    ensures { λ r. ⌜ record { answer = r; shadow = now (shadow .exit); output = now (output .exit); spectra = now (spectra .exit); out = now (out .exit) } ≡ hostedOf (processOf (record { state = s; shadow = now (shadow .entry); output = now (output .entry); spectra = now (spectra .entry) }) (now (near .entry)) (now (far .entry)) (now (out .entry))) ⌝ }
+    ensures { λ r. ⌜ TauProcess (record { state = s; shadow = now (shadow .entry); output = now (output .entry); spectra = now (spectra .entry) }) (now (near .entry)) (now (far .entry)) (now (out .entry)) r (now (shadow .exit)) (now (output .exit)) (now (spectra .exit)) (now (out .exit)) ⌝ }
 {
     numbers_of(tau::process(s, shadow, output, spectra, near, far, out))
 }
@@ -76,7 +77,7 @@ pub extern "C" fn aspeyruni_tau_flush(
     spectra: &mut [f64],
     out: &mut [f32],
 ) -> TauAnswer
-    ensures { λ r. ⌜ record { answer = r; shadow = now (shadow .exit); output = now (output .exit); spectra = now (spectra .exit); out = now (out .exit) } ≡ hostedOf (flushOf (record { state = s; shadow = now (shadow .entry); output = now (output .entry); spectra = now (spectra .entry) }) (now (out .entry))) ⌝ }
+    ensures { λ r. ⌜ TauFlush (record { state = s; shadow = now (shadow .entry); output = now (output .entry); spectra = now (spectra .entry) }) (now (out .entry)) r (now (shadow .exit)) (now (output .exit)) (now (spectra .exit)) (now (out .exit)) ⌝ }
 {
     numbers_of(tau::flush(s, shadow, output, spectra, out))
 }
@@ -88,7 +89,7 @@ pub extern "C" fn aspeyruni_tau_reset(
     output: &mut [f64],
     spectra: &mut [f64],
 ) -> Started
-    ensures { λ r. ⌜ record { answer = r; shadow = now (shadow .exit); output = now (output .exit); spectra = now (spectra .exit) } ≡ resetOf (record { state = s; shadow = now (shadow .entry); output = now (output .entry); spectra = now (spectra .entry) }) ⌝ }
+    ensures { λ r. ⌜ Reset (record { state = s; shadow = now (shadow .entry); output = now (output .entry); spectra = now (spectra .entry) }) r (now (shadow .exit)) (now (output .exit)) (now (spectra .exit)) ⌝ }
 {
     tau::reset(s, shadow, output, spectra)
 }

@@ -5,8 +5,7 @@
 use numbers::lesser;
 use tau::Answer;
 use tau_state::state::TauCanceller;
-ghost use mathlib.Core.Path.{_≡_};
-ghost use Rattle.capture.specs.Feeds.{fedOf, finishedOf};
+ghost use Rattle.capture.specs.Promises.{Feed, Finish};
 
 // The whole pairs of `held`, at most 4,096 of them, are processed. What they deliver stands at the front of `bytes`, four a sample.
 pub fn feed(
@@ -17,7 +16,7 @@ pub fn feed(
     held: &[u8],
     bytes: &mut [u8],
 ) -> Answer
-    ensures { λ r. ⌜ record { answer = r; shadow = now (shadow .exit); output = now (output .exit); spectra = now (spectra .exit); bytes = now (bytes .exit) } ≡ fedOf (record { state = s; shadow = now (shadow .entry); output = now (output .entry); spectra = now (spectra .entry) }) (now (held .entry)) (now (bytes .entry)) ⌝ }
+    ensures { λ r. ⌜ Feed (record { state = s; shadow = now (shadow .entry); output = now (output .entry); spectra = now (spectra .entry) }) (now (held .entry)) (now (bytes .entry)) r (now (shadow .exit)) (now (output .exit)) (now (spectra .exit)) (now (bytes .exit)) ⌝ }
 {
     let end = lesser(held.len(), 32768);
     let taken = &held[..end];
@@ -50,7 +49,7 @@ pub fn finish(
     spectra: &mut [f64],
     bytes: &mut [u8],
 ) -> Answer
-    ensures { λ r. ⌜ record { answer = r; shadow = now (shadow .exit); output = now (output .exit); spectra = now (spectra .exit); bytes = now (bytes .exit) } ≡ finishedOf (record { state = s; shadow = now (shadow .entry); output = now (output .entry); spectra = now (spectra .entry) }) (now (bytes .entry)) ⌝ }
+    ensures { λ r. ⌜ Finish (record { state = s; shadow = now (shadow .entry); output = now (output .entry); spectra = now (spectra .entry) }) (now (bytes .entry)) r (now (shadow .exit)) (now (output .exit)) (now (spectra .exit)) (now (bytes .exit)) ⌝ }
 {
     let mut out = [0.0f32; 4096];
     let room = lesser(bytes.len() / 4, 4096);

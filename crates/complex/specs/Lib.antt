@@ -1,1 +1,2 @@
 pub mod Complexes
+pub mod Promises

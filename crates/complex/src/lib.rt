@@ -1,6 +1,5 @@
 // A complex number by value. Number i of a buffer that holds complex numbers part by part is `getC`, `putC` in specs/Complexes.
-ghost use mathlib.Core.Path.{_≡_};
-ghost use Rattle.complex.specs.Complexes.{newC, conjC, addC, subC, mulC, scaleC};
+ghost use Rattle.complex.specs.Promises.{New, Conj, Add, Sub, Mul, Scale};
 
 pub struct Complex {
     pub re: f64,
@@ -11,13 +10,13 @@ impl Complex {
     pub const ZERO: Complex = Complex { re: 0.0, im: 0.0 };
 
     pub fn new(re: f64, im: f64) -> Complex
-        ensures { λ r. ⌜ r ≡ newC re im ⌝ }
+        ensures { λ r. ⌜ New re im r ⌝ }
     {
         Complex { re, im }
     }
 
     pub fn conj(self) -> Complex
-        ensures { λ r. ⌜ r ≡ conjC self ⌝ }
+        ensures { λ r. ⌜ Conj self r ⌝ }
     {
         Complex {
             re: self.re,
@@ -26,7 +25,7 @@ impl Complex {
     }
 
     pub fn add(self, other: Complex) -> Complex
-        ensures { λ r. ⌜ r ≡ addC self other ⌝ }
+        ensures { λ r. ⌜ Add self other r ⌝ }
     {
         Complex {
             re: self.re + other.re,
@@ -35,7 +34,7 @@ impl Complex {
     }
 
     pub fn sub(self, other: Complex) -> Complex
-        ensures { λ r. ⌜ r ≡ subC self other ⌝ }
+        ensures { λ r. ⌜ Sub self other r ⌝ }
     {
         Complex {
             re: self.re - other.re,
@@ -45,7 +44,7 @@ impl Complex {
 
     // Two products a part, so that nothing can be fused.
     pub fn mul(self, other: Complex) -> Complex
-        ensures { λ r. ⌜ r ≡ mulC self other ⌝ }
+        ensures { λ r. ⌜ Mul self other r ⌝ }
     {
         Complex {
             re: self.re * other.re - self.im * other.im,
@@ -54,7 +53,7 @@ impl Complex {
     }
 
     pub fn scale(self, factor: f64) -> Complex
-        ensures { λ r. ⌜ r ≡ scaleC self factor ⌝ }
+        ensures { λ r. ⌜ Scale self factor r ⌝ }
     {
         Complex {
             re: self.re * factor,

@@ -9,9 +9,8 @@ use complex::Complex;
 ghost use mathlib.Core.Path.{_≡_};
 ghost use Prim.Native.Nat.{_+_, _*_, _≤_, _<_};
 ghost use lib.ListN.{length};
-ghost use mathlib.Core.Bool.{true, false};
-ghost use Rattle.complex_fft.specs.Calls.{complexOf};
-ghost use Rattle.complex_fft.specs.ComplexFft.{swapAt, permuted, wingsOf, butterflyAt, twiddleOf, blockAt, stageAt, stages, scaled, runOf};
+ghost use Rattle.complex_fft.specs.ComplexFft.{swapAt, permuted, butterflyAt, twiddleOf, blockAt, stageAt, stages, scaled, runOf};
+ghost use Rattle.complex_fft.specs.Promises.{ComplexForward, ComplexInverse, Butterfly};
 
 // What a butterfly gives.
 pub struct Wings {
@@ -44,7 +43,7 @@ fn permute(s: &mut [f64], table: &[u8])
 }
 
 pub fn butterfly(u: Complex, v: Complex, twiddle: Complex) -> Wings
-    ensures { λ r. ⌜ r ≡ wingsOf u v twiddle ⌝ }
+    ensures { λ r. ⌜ Butterfly u v twiddle r ⌝ }
 {
     let turned = twiddle.mul(v);
     Wings {
@@ -144,7 +143,7 @@ fn run(s: &mut [f64], table: &[f64], reversal: &[u8], inverse: bool)
 
 // 256 points, real part then imaginary, in place. 0, or 2 with nothing written where there are not 512 numbers.
 pub fn complex_forward(points: &mut [f64]) -> u32
-    ensures { λ r. ⌜ record { answer = r; out = now (points .exit) } ≡ complexOf false (now (points .entry)) ⌝ }
+    ensures { λ r. ⌜ ComplexForward (now (points .entry)) r (now (points .exit)) ⌝ }
 {
     if points.len() != 512 {
         return WRONG_LENGTH;
@@ -157,7 +156,7 @@ pub fn complex_forward(points: &mut [f64]) -> u32
 
 // The inverse, its 1/256 included.
 pub fn complex_inverse(points: &mut [f64]) -> u32
-    ensures { λ r. ⌜ record { answer = r; out = now (points .exit) } ≡ complexOf true (now (points .entry)) ⌝ }
+    ensures { λ r. ⌜ ComplexInverse (now (points .entry)) r (now (points .exit)) ⌝ }
 {
     if points.len() != 512 {
         return WRONG_LENGTH;

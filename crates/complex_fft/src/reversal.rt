@@ -1,6 +1,5 @@
 // The constant reversal table: entry i has the eight bits of i in reverse order.
-ghost use mathlib.Core.Path.{_≡_};
-ghost use Rattle.complex_fft.specs.Reversal.{reversalTable};
+ghost use Rattle.complex_fft.specs.Promises.{ReversalTable};
 
 const REVERSAL: [u8; 256] = [
     0,
@@ -263,7 +262,7 @@ const REVERSAL: [u8; 256] = [
 
 // The table, copied once: each place that names the constant would copy it whole.
 pub fn reversal_table() -> [u8; 256]
-    ensures { λ r. ⌜ r ≡ reversalTable ⌝ }
+    ensures { λ r. ⌜ ReversalTable r ⌝ }
 {
     REVERSAL
 }

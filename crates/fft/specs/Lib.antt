@@ -1,3 +1,4 @@
 pub mod RealFft
 pub mod Scratch
 pub mod Calls
+pub mod Promises

@@ -15,9 +15,10 @@ ghost use Prim.Native.Nat.{_+_, _*_, _-_, _%_, _≤_};
 ghost use lib.ListN.{length, take, drop};
 ghost use Rattle.complex_fft.specs.Reversal.{reversalTable};
 ghost use Rattle.self_sorting.specs.Passes.{loaded, pointsOf, passes};
-ghost use Rattle.fft.specs.Calls.{forwardOf, forwardWithOf, inverseOf, inverseWithOf, halfWithOf, lentOf};
+ghost use Rattle.fft.specs.Calls.{lentOf};
 ghost use Rattle.fft.specs.RealFft.{binFrom, binOf, binsOf, halfOf, halvesOf, spectrumWith, samplesWith};
 ghost use Rattle.fft.specs.Scratch.{scaledFrom};
+ghost use Rattle.fft.specs.Promises.{Forward, Inverse, ForwardWith, InverseWith, InverseHalfWith, RefusedKeeps};
 
 // The even samples are the real parts and the odd ones the imaginary: they go straight into the core's scratch.
 fn load_samples(input: &[f32], z: &mut [f64])
@@ -149,7 +150,7 @@ fn samples_of(
 
 // 512 samples to 257 bins. 0, or 2 with nothing written where a length is wrong.
 pub fn forward(input: &[f32], out: &mut [f64]) -> u32
-    ensures { λ r. ⌜ record { answer = r; out = now (out .exit) } ≡ forwardOf (now (input .entry)) (now (out .entry)) ⌝ }
+    ensures { λ r. ⌜ Forward (now (input .entry)) (now (out .entry)) r (now (out .exit)) ⌝ }
 {
     if input.len() != 512 {
         return WRONG_LENGTH;
@@ -167,7 +168,7 @@ pub fn forward(input: &[f32], out: &mut [f64]) -> u32
 
 // 257 bins to 512 samples. 0, or 2 with nothing written where a length is wrong.
 pub fn inverse(spectrum: &[f64], out: &mut [f32]) -> u32
-    ensures { λ r. ⌜ record { answer = r; out = now (out .exit) } ≡ inverseOf (now (spectrum .entry)) (now (out .entry)) ⌝ }
+    ensures { λ r. ⌜ Inverse (now (spectrum .entry)) (now (out .entry)) r (now (out .exit)) ⌝ }
 {
     if spectrum.len() != 514 {
         return WRONG_LENGTH;
@@ -194,8 +195,8 @@ fn lent(table: &[f64], scratch: &[f64]) -> bool
 
 // `forward` over a lent table and scratch.
 pub fn forward_with(table: &[f64], scratch: &mut [f64], samples: &[f32], bins: &mut [f64]) -> u32
-    ensures { λ r. ⌜ record { answer = r; out = now (bins .exit) } ≡ forwardWithOf (now (table .entry)) (now (scratch .entry)) (now (samples .entry)) (now (bins .entry)) ⌝ }
-    ensures { λ r. ⌜ (r ≡ 2 → now (scratch .exit) ≡ now (scratch .entry)) ⌝ }
+    ensures { λ r. ⌜ ForwardWith (now (table .entry)) (now (scratch .entry)) (now (samples .entry)) (now (bins .entry)) r (now (bins .exit)) ⌝ }
+    ensures { λ r. ⌜ RefusedKeeps (now (scratch .entry)) r (now (scratch .exit)) ⌝ }
 {
     if !lent(table, scratch) {
         return WRONG_LENGTH;
@@ -213,8 +214,8 @@ pub fn forward_with(table: &[f64], scratch: &mut [f64], samples: &[f32], bins: &
 
 // `inverse` over a lent table and scratch.
 pub fn inverse_with(table: &[f64], scratch: &mut [f64], source: &[f64], target: &mut [f32]) -> u32
-    ensures { λ r. ⌜ record { answer = r; out = now (target .exit) } ≡ inverseWithOf (now (table .entry)) (now (scratch .entry)) (now (source .entry)) (now (target .entry)) ⌝ }
-    ensures { λ r. ⌜ (r ≡ 2 → now (scratch .exit) ≡ now (scratch .entry)) ⌝ }
+    ensures { λ r. ⌜ InverseWith (now (table .entry)) (now (scratch .entry)) (now (source .entry)) (now (target .entry)) r (now (target .exit)) ⌝ }
+    ensures { λ r. ⌜ RefusedKeeps (now (scratch .entry)) r (now (scratch .exit)) ⌝ }
 {
     if !lent(table, scratch) {
         return WRONG_LENGTH;
@@ -237,8 +238,8 @@ pub fn inverse_half_with(
     later: bool,
     half: &mut [f32],
 ) -> u32
-    ensures { λ r. ⌜ record { answer = r; out = now (half .exit) } ≡ halfWithOf (now (table .entry)) (now (scratch .entry)) (now (source .entry)) later (now (half .entry)) ⌝ }
-    ensures { λ r. ⌜ (r ≡ 2 → now (scratch .exit) ≡ now (scratch .entry)) ⌝ }
+    ensures { λ r. ⌜ InverseHalfWith (now (table .entry)) (now (scratch .entry)) (now (source .entry)) later (now (half .entry)) r (now (half .exit)) ⌝ }
+    ensures { λ r. ⌜ RefusedKeeps (now (scratch .entry)) r (now (scratch .exit)) ⌝ }
 {
     if !lent(table, scratch) {
         return WRONG_LENGTH;

@@ -6,8 +6,9 @@ ghost use mathlib.Core.Path.{_≡_};
 ghost use mathlib.Core.Bool.{true, _&&_};
 ghost use Prim.Native.Nat.{_+_, _≤_};
 ghost use lib.ListN.{length, drop};
-ghost use Rattle.line_order.specs.Order.{isDigit, run, spelled, earlier, atMost};
+ghost use Rattle.line_order.specs.Order.{isDigit, run, spelled, earlier};
 ghost use Rattle.line_order.specs.Steps.{comparison, Leading, Agreed};
+ghost use Rattle.line_order.specs.Promises.{AtMost};
 
 // What a comparison of two numbers finds of the first.
 const LESS: u8 = 0;
@@ -18,7 +19,7 @@ const MORE: u8 = 2;
 
 // Whether the line `a` comes before the line `b`, or is the same.
 pub fn at_most(a: &[u8], b: &[u8]) -> bool
-    ensures { λ r. ⌜ r ≡ atMost (now (a .entry)) (now (b .entry)) ⌝ }
+    ensures { λ r. ⌜ AtMost (now (a .entry)) (now (b .entry)) r ⌝ }
 {
     let mut i = 0usize;
     let mut j = 0usize;

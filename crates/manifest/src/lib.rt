@@ -7,7 +7,7 @@ mod place;
 mod split;
 
 ghost use mathlib.Core.Path.{_≡_};
-ghost use Rattle.manifest.specs.Sorted.{answerOf};
+ghost use Rattle.manifest.specs.Promises.{Sort};
 
 // `refusal` is 0 where the manifest was sorted, and `written` then counts its bytes.
 pub struct Sorted {
@@ -27,7 +27,7 @@ pub const NO_ROOM: u32 = 3;
 
 // Sorts `text` into the start of `out`. A refused call writes nothing.
 pub fn sort(text: &[u8], out: &mut [u8]) -> Sorted
-    ensures { λ r. ⌜ record { refusal = r .refusal; written = r .written; out = now (out .exit) } ≡ answerOf (now (text .entry)) (now (out .entry)) ⌝ }
+    ensures { λ r. ⌜ Sort (now (text .entry)) (now (out .entry)) r (now (out .exit)) ⌝ }
 {
     if text.len() > MOST_BYTES {
         return refused(TOO_LONG);

@@ -5,3 +5,4 @@ pub mod Zeros
 pub mod Ranges
 pub mod Marked
 pub mod Same
+pub mod Promises

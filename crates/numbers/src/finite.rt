@@ -1,9 +1,8 @@
 // Finite or not.
-ghost use mathlib.Core.Path.{_≡_};
-ghost use Rattle.numbers.specs.Finite.{isFinite, finiteOrZero};
+ghost use Rattle.numbers.specs.Promises.{IsFinite, FiniteOrZero};
 
 pub fn is_finite(x: f64) -> bool
-    ensures { λ r. ⌜ r ≡ isFinite x ⌝ }
+    ensures { λ r. ⌜ IsFinite x r ⌝ }
 {
     let top = 1.0 / 0.0;
     if x < top {
@@ -13,7 +12,7 @@ pub fn is_finite(x: f64) -> bool
 }
 
 pub fn is_finite32(x: f32) -> bool
-    ensures { λ r. ⌜ r ≡ isFinite x ⌝ }
+    ensures { λ r. ⌜ IsFinite x r ⌝ }
 {
     let top32 = 1.0f32 / 0.0f32;
     if x < top32 {
@@ -24,7 +23,7 @@ pub fn is_finite32(x: f32) -> bool
 
 // What an engine reads a sample as: a non-finite one as +0.0.
 pub fn finite_or_zero(x: f32) -> f32
-    ensures { λ r. ⌜ r ≡ finiteOrZero x ⌝ }
+    ensures { λ r. ⌜ FiniteOrZero x r ⌝ }
 {
     if is_finite32(x) {
         return x;

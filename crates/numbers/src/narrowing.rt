@@ -1,20 +1,20 @@
 // From f32 to f64, which is exact, and from f64 to f32, which rounds once, from the bits.
 ghost use mathlib.Core.Path.{_≡_};
-ghost use Prim.Native.Nat.{_%_, _<_, _^_};
-ghost use lib.Ieee.{binary32, toBits};
+ghost use Prim.Native.Nat.{_<_, _^_};
 ghost use lib.Ieee.Nearest.{closest};
-ghost use Rattle.numbers.specs.Narrowing.{narrowOf, magOf};
+ghost use Rattle.numbers.specs.Narrowing.{magOf};
+ghost use Rattle.numbers.specs.Promises.{Widen, Narrow, NarrowBits, DropLow};
 
 // The same number. Nothing is rounded, so the logic has one value for both.
 pub fn widen(x: f32) -> f64
-    ensures { λ r. ⌜ r ≡ x ⌝ }
+    ensures { λ r. ⌜ Widen x r ⌝ }
 {
     std::num::f32_to_f64_with_nan(x)
 }
 
 // The f32 nearest to x, IEEE 754's conversion: ties to even, overflow to an infinity.
 pub fn narrow(x: f64) -> f32
-    ensures { λ r. ⌜ r ≡ narrowOf x ⌝ }
+    ensures { λ r. ⌜ Narrow x r ⌝ }
 {
     if x != x {
         return 0.0 / 0.0;
@@ -24,7 +24,7 @@ pub fn narrow(x: f64) -> f32
 
 // The bits of the f32 nearest to x. A NaN gives 7FC00000.
 pub fn narrow_bits(x: f64) -> u32
-    ensures { λ r. ⌜ r ≡ toBits binary32 (narrowOf x) ⌝ }
+    ensures { λ r. ⌜ NarrowBits x r ⌝ }
 {
     if x != x {
         return 0x7fc0_0000;
@@ -62,7 +62,7 @@ fn magnitude(exponent: u64, digits: u64) -> u64
 // sign's; with it off no sum is too large. No branch: on sound, which way it rounds is a coin's throw, and a processor that guesses
 // wrong half the time takes three times as long.
 pub fn drop_low(m: u64) -> u64
-    ensures { λ r. ⌜ r ≡ closest (m % 2 ^ 63) (2 ^ 29) ⌝ }
+    ensures { λ r. ⌜ DropLow m r ⌝ }
 {
     let size = m % 0x8000_0000_0000_0000;
     (size + 0xfff_ffff + size / 0x2000_0000 % 2) / 0x2000_0000

@@ -1,11 +1,9 @@
 // Sizes, and the order of two numbers.
-ghost use mathlib.Core.Path.{_≡_};
-ghost use Prim.Native.Nat.{min as least};
-ghost use Rattle.numbers.specs.Order.{absOf, minOf, maxOf, clampOf};
+ghost use Rattle.numbers.specs.Promises.{Abs, Min, Max, Clamp, Lesser};
 
 // |x|: the sign is cleared, of a zero and an infinity too.
 pub fn abs(x: f64) -> f64
-    ensures { λ r. ⌜ r ≡ absOf x ⌝ }
+    ensures { λ r. ⌜ Abs x r ⌝ }
 {
     if x < 0.0 {
         return -x;
@@ -17,7 +15,7 @@ pub fn abs(x: f64) -> f64
 }
 
 pub fn abs32(s: f32) -> f32
-    ensures { λ r. ⌜ r ≡ absOf s ⌝ }
+    ensures { λ r. ⌜ Abs s r ⌝ }
 {
     if s < 0.0 {
         return -s;
@@ -29,7 +27,7 @@ pub fn abs32(s: f32) -> f32
 }
 
 pub fn min(x: f64, y: f64) -> f64
-    ensures { λ r. ⌜ r ≡ minOf x y ⌝ }
+    ensures { λ r. ⌜ Min x y r ⌝ }
 {
     if x != x {
         return y;
@@ -38,7 +36,7 @@ pub fn min(x: f64, y: f64) -> f64
 }
 
 pub fn max(x: f64, y: f64) -> f64
-    ensures { λ r. ⌜ r ≡ maxOf x y ⌝ }
+    ensures { λ r. ⌜ Max x y r ⌝ }
 {
     if x != x {
         return y;
@@ -47,7 +45,7 @@ pub fn max(x: f64, y: f64) -> f64
 }
 
 pub fn max32(a: f32, b: f32) -> f32
-    ensures { λ r. ⌜ r ≡ maxOf a b ⌝ }
+    ensures { λ r. ⌜ Max a b r ⌝ }
 {
     if a != a {
         return b;
@@ -57,7 +55,7 @@ pub fn max32(a: f32, b: f32) -> f32
 
 // x held between lo and hi. A NaN stays, and no lo or hi is refused: where hi is below lo, lo is tried first.
 pub fn clamp(x: f64, lo: f64, hi: f64) -> f64
-    ensures { λ r. ⌜ r ≡ clampOf x lo hi ⌝ }
+    ensures { λ r. ⌜ Clamp x lo hi r ⌝ }
 {
     if x < lo {
         return lo;
@@ -67,7 +65,7 @@ pub fn clamp(x: f64, lo: f64, hi: f64) -> f64
 
 // Of two counts, as of what there is and what there is room for.
 pub fn lesser(a: usize, b: usize) -> usize
-    ensures { λ r. ⌜ r ≡ least a b ⌝ }
+    ensures { λ r. ⌜ Lesser a b r ⌝ }
 {
     if a < b { a } else { b }
 }

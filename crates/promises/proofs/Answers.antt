@@ -1,27 +1,31 @@
 -- One lemma, and its instances. Assumes nothing.
-use mathlib.Core.Path.{_≡_, sym, _∙_}
-use Rattle.promises.specs.Answers.{One, Numbers, Tables, Complexes, Transforms, Rho, Tau, Bytes, Lists}
+use mathlib.Core.Path.{_≡_, refl, sym, ap, _∙_}
+use Rattle.promises.specs.Answers.{One, Numbers, Tables, Complexes, Transforms, Rho, Tau, Hosts, Bytes, Lists}
 
-pub one : {A : Type 0} (d : A) → One d
-one d x y h k = h ∙ sym k
+-- two that equal d equal each other
+one : {A : Type 0} (d : A) → One A (λ r. r ≡ d)
+one d r s h k = h ∙ sym k
 
 pub numbers : Numbers
-numbers x y z b m n xs out = (one _, one _, one _, one _, one _, one _, one _, one _, one _, one _, one _, one _, one _, one _, one _)
+numbers x y z b m n xs out = (one _, one _, one _, one _, one _, one _, one _, one _, one _, one _, one _, one _, one _, one _, one _, one _)
 
 pub tables : Tables
 tables x = (one _, one _, one _, one _)
 
 pub complexes : Complexes
-complexes x y a b = (one _, one _, one _, one _, one _, one _)
+complexes x y a b c = (one _, one _, one _, one _, one _, one _, one _)
 
 pub transforms : Transforms
-transforms x t out s inverse later = (one _, one _, one _, one _, one _, one _)
+transforms x out t s later = (one _, one _, one _, one _, one _, one _, one _, λ a b h k. h refl ∙ sym (k refl))
 
 pub rho : Rho
-rho rate tail e near far out = (one _, one _, one _, one _)
+rho rate tail weights history e near far out = (one _, one _, λ r s h k. ap (λ c. c .answer) (h ∙ sym k), one _)
 
 pub tau : Tau
-tau parts flag sh ou xs e near far out = (one _, one _, one _, one _)
+tau parts flag shadow output spectra e near far out = (one _, one _, one _, one _)
+
+pub hosts : Hosts
+hosts e near far out = (one _, one _)
 
 pub bytes : Bytes
 bytes s out xs buf n e = (one _, one _, one _, one _, one _, one _, one _)

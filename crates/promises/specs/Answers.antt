@@ -1,97 +1,128 @@
--- A promise admits one answer: two answers that meet it, each with every lent buffer after the call, are the same. Every public function's
--- contract is an equation to a definition (`widen`'s to its argument), so each is an instance of one lemma. Statements; proved in
--- proofs/Answers.antt.
+-- One answer each: two answers that meet a promise, each with what every lent buffer holds after, are the same. A promise is a relation: its
+-- crate names it in specs/Promises, and the function's contract cites that name. Weaken one, and its line here is false. Where a call
+-- writes to buffers, its answer and these make one record. What an accepted call leaves in a lent scratch is open: no line speaks of it.
+-- Statements; proved in proofs/Answers.antt.
 use mathlib.Core.Path.{_≡_}
 use mathlib.Core.Bool.{Bool}
 use mathlib.Core.List.{List}
-use Prim.Native.Nat.{ℕ, _+_, _*_, _/_, _%_, _^_, min}
-use lib.Dec.{leb}
-use lib.Ieee.{Float, nan, binary32, binary64, ofBits, toBits}
-use lib.Ieee.Nearest.{closest}
-use lib.ListN.{length, getD}
-use Rattle.laws.specs.Choice.{pick}
-use Rattle.laws.specs.Loops.{over}
-use Rattle.numbers.specs.Order.{absOf, minOf, maxOf, clampOf}
-use Rattle.numbers.specs.Finite.{isFinite, finiteOrZero}
-use Rattle.numbers.specs.Narrowing.{narrowOf}
-use Rattle.trig.specs.Trig.{detSin, detCos}
-use Rattle.trig.specs.Tables.{recombination}
+use Prim.Native.Nat.{ℕ}
+use lib.Ieee.{Float}
+use Rattle.numbers.specs.Promises.{Abs, Min, Max, Clamp, Lesser, IsFinite, FiniteOrZero, Widen, Narrow, NarrowBits, DropLow}
+use Rattle.numbers.specs.Promises.{FromBits, FromBits32, ToBits, ToBits32}
+use Rattle.narrow_list.specs.Promises.{NarrowInto}
+use Rattle.trig.specs.Promises.{DetSin, DetCos, Recombination}
 use Rattle.complex.specs.declared.Complex.{Complex}
-use Rattle.complex.specs.Complexes.{newC, conjC, addC, subC, mulC, scaleC}
-use Rattle.complex_fft.specs.Reversal.{reversalTable}
-use Rattle.complex_fft.specs.Calls.{complexOf}
-use Rattle.fft.specs.Calls as fft
-use Rattle.rho.specs.Sample as sample
-use Rattle.rho.specs.Calls as rho
+use Rattle.complex.specs.Promises.{New, Conj, Add, Sub, Mul, Scale}
+use Rattle.complex_fft.specs.declared.complex_fft.Wings.{Wings}
+use Rattle.complex_fft.specs.Calls.{Wrote}
+use Rattle.complex_fft.specs.Promises.{ComplexForward, ComplexInverse, ReversalTable, Butterfly}
+use Rattle.fft.specs.Promises.{Forward, Inverse, ForwardWith, InverseWith, InverseHalfWith, RefusedKeeps}
+use Rattle.rho.specs.Sample as rhoSample
+use Rattle.rho.specs.declared.calls.Answer as rhoAnswer
+use Rattle.rho.specs.Calls as rhoCalls
+use Rattle.rho.specs.Promises as rho
 use Rattle.tau_frame.specs.Pairs.{Engine}
-use Rattle.tau.specs.Calls as tau
-use Rattle.wire.specs.Wire.{pairsIn, sampleAt, writtenAt}
-use Rattle.capture.specs.Feeds as capture
-use Rattle.line_order.specs.Order.{atMost}
-use Rattle.manifest.specs.Sorted.{answerOf}
+use Rattle.tau.specs.Calls.{Begun, Called}
+use Rattle.tau.specs.Promises as tau
+use Rattle.capi.specs.Tau.{Hosted}
+use Rattle.capi.specs.Promises.{TauProcess, TauFlush}
+use Rattle.wire.specs.Promises.{WholePairs, ReadNear, ReadFar, KeepRest, WriteSamples}
+use Rattle.capture.specs.Feeds.{Fed}
+use Rattle.capture.specs.Promises.{Feed, Finish}
+use Rattle.line_order.specs.Promises.{AtMost}
+use Rattle.manifest.specs.Sorted as sorted
+use Rattle.manifest.specs.Promises.{Sort}
 
--- two that equal d equal each other
-abbrev pub One : {A : Type 0} → A → Type 0
-One {A} d = (x y : A) → x ≡ d → y ≡ d → x ≡ y
+-- two answers that meet the promise are the same
+abbrev pub One : (A : Type 0) → (A → Type 0) → Type 0
+One A promise = (r s : A) → promise r → promise s → r ≡ s
 
 -- numbers, narrow_list: x, y, z are numbers, b a pattern, m and n counts, xs and out lists
 abbrev pub Numbers : Type 0
 Numbers = (x y z : Float) (b m n : ℕ) (xs out : List Float)
-    → One (absOf x)
-    × One (minOf x y)
-    × One (maxOf x y)
-    × One (clampOf x y z)
-    × One (min m n)
-    × One (isFinite x)
-    × One (finiteOrZero x)
-    × One (narrowOf x)
-    × One (over (length xs) (λ k _. narrowOf (getD xs k nan)) out)
-    × One (toBits binary32 (narrowOf x))
-    × One (closest (b % 2 ^ 63) (2 ^ 29))
-    × One (ofBits binary64 b)
-    × One (ofBits binary32 b)
-    × One (toBits binary64 x)
-    × One (toBits binary32 x)
+    → One Float (Abs x)
+    × One Float (Min x y)
+    × One Float (Max x y)
+    × One Float (Clamp x y z)
+    × One ℕ (Lesser m n)
+    × One Bool (IsFinite x)
+    × One Float (FiniteOrZero x)
+    × One Float (Widen x)
+    × One Float (Narrow x)
+    × One ℕ (NarrowBits x)
+    × One ℕ (DropLow b)
+    × One Float (FromBits b)
+    × One Float (FromBits32 b)
+    × One ℕ (ToBits x)
+    × One ℕ (ToBits32 x)
+    × One (List Float) (NarrowInto xs out)
 
 -- trig, and the two tables
 abbrev pub Tables : Type 0
-Tables = (x : Float) → One (detSin x) × One (detCos x) × One recombination × One reversalTable
+Tables = (x : Float)
+    → One Float (DetSin x)
+    × One Float (DetCos x)
+    × One (List Float) Recombination
+    × One (List ℕ) ReversalTable
 
 -- the complex number
 abbrev pub Complexes : Type 0
-Complexes = (x y : Float) (a b : Complex) → One (newC x y) × One (conjC a) × One (addC a b) × One (subC a b) × One (mulC a b) × One (scaleC a x)
+Complexes = (x y : Float) (a b c : Complex)
+    → One Complex (New x y)
+    × One Complex (Conj a)
+    × One Complex (Add a b)
+    × One Complex (Sub a b)
+    × One Complex (Mul a b)
+    × One Complex (Scale a x)
+    × One Wings (Butterfly a b c)
 
--- the transform
+-- the transform, of x into out; t is a lent table and s a lent scratch, which a refused call, answer 2, leaves as it was
 abbrev pub Transforms : Type 0
-Transforms = (x t out s : List Float) (inverse later : Bool)
-    → One (fft.forwardOf x out)
-    × One (fft.inverseOf x out)
-    × One (complexOf inverse x)
-    × One (fft.forwardWithOf t s x out)
-    × One (fft.inverseWithOf t s x out)
-    × One (fft.halfWithOf t s x later out)
+Transforms = (x out t s : List Float) (later : Bool)
+    → One Wrote (λ w. ComplexForward x (w .answer) (w .out))
+    × One Wrote (λ w. ComplexInverse x (w .answer) (w .out))
+    × One Wrote (λ w. Forward x out (w .answer) (w .out))
+    × One Wrote (λ w. Inverse x out (w .answer) (w .out))
+    × One Wrote (λ w. ForwardWith t s x out (w .answer) (w .out))
+    × One Wrote (λ w. InverseWith t s x out (w .answer) (w .out))
+    × One Wrote (λ w. InverseHalfWith t s x later out (w .answer) (w .out))
+    × One (List Float) (RefusedKeeps s 2)
 
 -- RhoCanceller
 abbrev pub Rho : Type 0
-Rho = (rate tail : ℕ) (e : sample.Engine) (near far out : List Float)
-    → One (rho.createOf rate tail near far) × One (rho.processOf e near far out) × One (rho.flushOf e) × One (rho.resetOf e)
+Rho = (rate tail : ℕ) (weights history : List Float) (e : rhoSample.Engine) (near far out : List Float)
+    → One rhoCalls.Begun (λ c. rho.Create rate tail weights history (c .answer) (c .weights) (c .history))
+    × One rhoCalls.Called (λ c. rho.Process e near far out (c .answer) (c .weights) (c .history) (c .out))
+    × One rhoAnswer.Answer (rho.Flush e)
+    × One rhoCalls.Begun (λ c. rho.Reset e (c .answer) (c .weights) (c .history))
 
 -- TauCanceller
 abbrev pub Tau : Type 0
-Tau = (parts : ℕ) (flag : Bool) (sh ou xs : List Float) (e : Engine) (near far out : List Float)
-    → One (tau.createOf parts flag sh ou xs) × One (tau.processOf e near far out) × One (tau.flushOf e out) × One (tau.resetOf e)
+Tau = (parts : ℕ) (flag : Bool) (shadow output spectra : List Float) (e : Engine) (near far out : List Float)
+    → One Begun (λ c. tau.Create parts flag shadow output spectra (c .answer) (c .shadow) (c .output) (c .spectra))
+    × One Called (λ c. tau.Process e near far out (c .answer) (c .shadow) (c .output) (c .spectra) (c .out))
+    × One Called (λ c. tau.Flush e out (c .answer) (c .shadow) (c .output) (c .spectra) (c .out))
+    × One Begun (λ c. tau.Reset e (c .answer) (c .shadow) (c .output) (c .spectra))
+
+-- capi: the two calls whose answer is numbers; its other functions cite promises of the above
+abbrev pub Hosts : Type 0
+Hosts = (e : Engine) (near far out : List Float)
+    → One Hosted (λ c. TauProcess e near far out (c .answer) (c .shadow) (c .output) (c .spectra) (c .out))
+    × One Hosted (λ c. TauFlush e out (c .answer) (c .shadow) (c .output) (c .spectra) (c .out))
 
 -- bytes: s and out are lists of bytes, xs and buf of samples, n a count
 abbrev pub Bytes : Type 0
 Bytes = (s out : List ℕ) (xs buf : List Float) (n : ℕ) (e : Engine)
-    → One (pairsIn s)
-    × One (over (pairsIn s) (λ k _. sampleAt s (2 * k)) buf)
-    × One (over (pairsIn s) (λ k _. sampleAt s (2 * k + 1)) buf)
-    × One (over (4 * length xs) (λ i _. writtenAt xs i) out)
-    × One (pick (leb n (length s)) (over (n % 8) (λ k _. getD s (n / 8 * 8 + k) 0) s) s)
-    × One (capture.fedOf e s out)
-    × One (capture.finishedOf e out)
+    → One ℕ (WholePairs s)
+    × One (List Float) (ReadNear s buf)
+    × One (List Float) (ReadFar s buf)
+    × One (List ℕ) (KeepRest n s)
+    × One (List ℕ) (WriteSamples xs out)
+    × One Fed (λ c. Feed e s out (c .answer) (c .shadow) (c .output) (c .spectra) (c .bytes))
+    × One Fed (λ c. Finish e out (c .answer) (c .shadow) (c .output) (c .spectra) (c .bytes))
 
 -- the release list: a and b are lines, text and out lists of bytes
 abbrev pub Lists : Type 0
-Lists = (a b text out : List ℕ) → One (atMost a b) × One (answerOf text out)
+Lists = (a b text out : List ℕ)
+    → One Bool (AtMost a b)
+    × One sorted.Answer (λ c. Sort text out (record { refusal = c .refusal; written = c .written }) (c .out))

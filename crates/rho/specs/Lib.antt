@@ -3,3 +3,4 @@ pub mod Sample
 pub mod Pairs
 pub mod Calls
 pub mod Marked
+pub mod Promises

@@ -11,11 +11,12 @@ use crate::state::hangover_of;
 use crate::state::report_of;
 use rho_taps::update::clear;
 ghost use mathlib.Core.Path.{_≡_};
-ghost use mathlib.Core.List.{_++_, []};
+ghost use mathlib.Core.List.{_++_};
 ghost use Prim.Native.Nat.{_<_, _≤_};
 ghost use lib.ListN.{length, drop};
 ghost use Rattle.rho.specs.Pairs.{pairsOf};
-ghost use Rattle.rho.specs.Calls.{answerOf, createOf, processOf, flushOf, resetOf};
+ghost use Rattle.rho.specs.Calls.{answerOf};
+ghost use Rattle.rho.specs.Promises.{Create, Process, Flush, Reset};
 
 // What creation and reset answer.
 #[repr(C)]
@@ -34,7 +35,7 @@ pub struct Answer {
 }
 
 pub fn create(sample_rate: u32, tail_ms: u32, weights: &mut [f32], history: &mut [f32]) -> Started
-    ensures { λ r. ⌜ record { answer = r; weights = now (weights .exit); history = now (history .exit) } ≡ createOf «sample_rate» «tail_ms» (now (weights .entry)) (now (history .entry)) ⌝ }
+    ensures { λ r. ⌜ Create «sample_rate» «tail_ms» (now (weights .entry)) (now (history .entry)) r (now (weights .exit)) (now (history .exit)) ⌝ }
 {
     let refusal = create_refusal(sample_rate, tail_ms, weights.len(), history.len());
     if refusal != 0 {
@@ -53,7 +54,7 @@ pub fn create(sample_rate: u32, tail_ms: u32, weights: &mut [f32], history: &mut
 }
 
 pub fn reset(s: RhoCanceller, weights: &mut [f32], history: &mut [f32]) -> Started
-    ensures { λ r. ⌜ record { answer = r; weights = now (weights .exit); history = now (history .exit) } ≡ resetOf (record { state = s; weights = now (weights .entry); history = now (history .entry) }) ⌝ }
+    ensures { λ r. ⌜ Reset (record { state = s; weights = now (weights .entry); history = now (history .entry) }) r (now (weights .exit)) (now (history .exit)) ⌝ }
 {
     let refusal = state_refusal(s, weights.len(), history.len());
     if refusal != 0 {
@@ -69,7 +70,7 @@ pub fn reset(s: RhoCanceller, weights: &mut [f32], history: &mut [f32]) -> Start
 
 // Delivers nothing, since every pair is answered at once, and takes no output buffer. It still tests what it is given.
 pub fn flush(s: RhoCanceller, weights: &[f32], history: &[f32]) -> Answer
-    ensures { λ r. ⌜ record { answer = r; weights = now (weights .entry); history = now (history .entry); out = [] } ≡ flushOf (record { state = s; weights = now (weights .entry); history = now (history .entry) }) ⌝ }
+    ensures { λ r. ⌜ Flush (record { state = s; weights = now (weights .entry); history = now (history .entry) }) r ⌝ }
 {
     answer_of(state_refusal(s, weights.len(), history.len()), 0, s)
 }
@@ -123,7 +124,7 @@ pub fn process(
     far: &[f32],
     out: &mut [f32],
 ) -> Answer
-    ensures { λ r. ⌜ record { answer = r; weights = now (weights .exit); history = now (history .exit); out = now (out .exit) } ≡ processOf (record { state = s; weights = now (weights .entry); history = now (history .entry) }) (now (near .entry)) (now (far .entry)) (now (out .entry)) ⌝ }
+    ensures { λ r. ⌜ Process (record { state = s; weights = now (weights .entry); history = now (history .entry) }) (now (near .entry)) (now (far .entry)) (now (out .entry)) r (now (weights .exit)) (now (history .exit)) (now (out .exit)) ⌝ }
 {
     let refusal = process_refusal(
         s,

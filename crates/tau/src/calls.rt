@@ -22,7 +22,8 @@ ghost use mathlib.Core.Path.{_≡_};
 ghost use lib.ListN.{length};
 ghost use Rattle.tau_state.specs.Lent.{suppressorOf, wholeOf};
 ghost use Rattle.tau_frame.specs.Lent.{engineOf};
-ghost use Rattle.tau.specs.Calls.{processRefusal, flushRefusal, answerOf, createOf, processOf, flushOf, resetOf};
+ghost use Rattle.tau.specs.Calls.{processRefusal, flushRefusal, answerOf, processOf, flushOf};
+ghost use Rattle.tau.specs.Promises.{Create, Process, Flush, Reset};
 
 // What creation and reset answer.
 #[repr(C)]
@@ -57,7 +58,7 @@ pub fn create(
     output: &mut [f64],
     spectra: &mut [f64],
 ) -> Started
-    ensures { λ r. ⌜ record { answer = r; shadow = now (shadow .exit); output = now (output .exit); spectra = now (spectra .exit) } ≡ createOf partitions suppress (now (shadow .entry)) (now (output .entry)) (now (spectra .entry)) ⌝ }
+    ensures { λ r. ⌜ Create partitions suppress (now (shadow .entry)) (now (output .entry)) (now (spectra .entry)) r (now (shadow .exit)) (now (output .exit)) (now (spectra .exit)) ⌝ }
 {
     let refusal = create_refusal(partitions, shadow.len(), output.len(), spectra.len());
     if refusal != 0 {
@@ -81,7 +82,7 @@ pub fn reset(
     output: &mut [f64],
     spectra: &mut [f64],
 ) -> Started
-    ensures { λ r. ⌜ record { answer = r; shadow = now (shadow .exit); output = now (output .exit); spectra = now (spectra .exit) } ≡ resetOf (record { state = s; shadow = now (shadow .entry); output = now (output .entry); spectra = now (spectra .entry) }) ⌝ }
+    ensures { λ r. ⌜ Reset (record { state = s; shadow = now (shadow .entry); output = now (output .entry); spectra = now (spectra .entry) }) r (now (shadow .exit)) (now (output .exit)) (now (spectra .exit)) ⌝ }
 {
     let refusal = state_refusal(s, shadow.len(), output.len(), spectra.len());
     if refusal != 0 {
@@ -154,7 +155,7 @@ pub fn process(
     far: &[f32],
     out: &mut [f32],
 ) -> Answer
-    ensures { λ r. ⌜ record { answer = r; shadow = now (shadow .exit); output = now (output .exit); spectra = now (spectra .exit); out = now (out .exit) } ≡ processOf (record { state = s; shadow = now (shadow .entry); output = now (output .entry); spectra = now (spectra .entry) }) (now (near .entry)) (now (far .entry)) (now (out .entry)) ⌝ }
+    ensures { λ r. ⌜ Process (record { state = s; shadow = now (shadow .entry); output = now (output .entry); spectra = now (spectra .entry) }) (now (near .entry)) (now (far .entry)) (now (out .entry)) r (now (shadow .exit)) (now (output .exit)) (now (spectra .exit)) (now (out .exit)) ⌝ }
 {
     let refusal = process_refusal(
         s,
@@ -254,7 +255,7 @@ pub fn flush(
     spectra: &mut [f64],
     out: &mut [f32],
 ) -> Answer
-    ensures { λ r. ⌜ record { answer = r; shadow = now (shadow .exit); output = now (output .exit); spectra = now (spectra .exit); out = now (out .exit) } ≡ flushOf (record { state = s; shadow = now (shadow .entry); output = now (output .entry); spectra = now (spectra .entry) }) (now (out .entry)) ⌝ }
+    ensures { λ r. ⌜ Flush (record { state = s; shadow = now (shadow .entry); output = now (output .entry); spectra = now (spectra .entry) }) (now (out .entry)) r (now (shadow .exit)) (now (output .exit)) (now (spectra .exit)) (now (out .exit)) ⌝ }
 {
     let refusal = flush_refusal(s, shadow.len(), output.len(), spectra.len(), out.len());
     let near_carry = s.near_carry;

@@ -1,3 +1,4 @@
 pub mod Trig
 pub mod Tables
 pub mod Marked
+pub mod Promises

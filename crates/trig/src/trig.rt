@@ -1,6 +1,7 @@
 // Sine and cosine in a fixed order of operations, with no fused multiply-add, so that a table of them has the same bits everywhere.
 ghost use mathlib.Core.Path.{_≡_};
-ghost use Rattle.trig.specs.Trig.{turns, reduced, foldSin, sinPoly, detSin, cosPoly, detCos};
+ghost use Rattle.trig.specs.Trig.{turns, reduced, foldSin, sinPoly, cosPoly};
+ghost use Rattle.trig.specs.Promises.{DetSin, DetCos};
 
 const PI: f64 = 3.14159265358979323846264338327950288;
 
@@ -74,7 +75,7 @@ fn sin_poly(r: f64) -> f64
 
 // Sine of x in radians, for x from -pi to 0. For any other x it is the same steps, which then do not reduce x.
 pub fn det_sin(x: f64) -> f64
-    ensures { λ r. ⌜ r ≡ detSin x ⌝ }
+    ensures { λ r. ⌜ DetSin x r ⌝ }
 {
     sin_poly(fold_sin(reduced(x)))
 }
@@ -113,7 +114,7 @@ fn cos_poly(r: f64) -> f64
 
 // Cosine of x in radians, for the same x as det_sin. det_cos(0) is exactly 1.0.
 pub fn det_cos(x: f64) -> f64
-    ensures { λ r. ⌜ r ≡ detCos x ⌝ }
+    ensures { λ r. ⌜ DetCos x r ⌝ }
 {
     // Fold into [0, pi/2]: cosine is even, and cos(r) = -cos(pi - r).
     let mut r = numbers::abs(reduced(x));

@@ -1,29 +1,28 @@
 // Reading.
 use numbers::lesser;
 ghost use mathlib.Core.Path.{_≡_};
-ghost use Prim.Native.Nat.{_+_, _*_, _/_, _%_, _≤_, _<_};
-ghost use lib.Dec.{leb};
-ghost use lib.ListN.{length, getD};
-ghost use Rattle.laws.specs.Choice.{pick};
+ghost use Prim.Native.Nat.{_+_, _*_, _≤_, _<_};
+ghost use lib.ListN.{length};
 ghost use Rattle.laws.specs.Loops.{over};
 ghost use Rattle.wire.specs.Wire.{patternAt, sampleAt, pairsIn};
+ghost use Rattle.wire.specs.Promises.{WholePairs, ReadNear, ReadFar, KeepRest};
 
 pub fn whole_pairs(bytes: &[u8]) -> usize
-    ensures { λ r. ⌜ r ≡ pairsIn (now (bytes .entry)) ⌝ }
+    ensures { λ r. ⌜ WholePairs (now (bytes .entry)) r ⌝ }
 {
     bytes.len() / 8
 }
 
 // The near samples of the whole pairs, as many as there is room for.
 pub fn read_near(bytes: &[u8], near: &mut [f32])
-    ensures { λ _. ⌜ now (near .exit) ≡ over (pairsIn (now (bytes .entry))) (λ k x. sampleAt (now (bytes .entry)) (2 * k)) (now (near .entry)) ⌝ }
+    ensures { λ _. ⌜ ReadNear (now (bytes .entry)) (now (near .entry)) (now (near .exit)) ⌝ }
 {
     read_from(bytes, 0, near);
 }
 
 // The far samples.
 pub fn read_far(bytes: &[u8], far: &mut [f32])
-    ensures { λ _. ⌜ now (far .exit) ≡ over (pairsIn (now (bytes .entry))) (λ k x. sampleAt (now (bytes .entry)) (2 * k + 1)) (now (far .entry)) ⌝ }
+    ensures { λ _. ⌜ ReadFar (now (bytes .entry)) (now (far .entry)) (now (far .exit)) ⌝ }
 {
     read_from(bytes, 1, far);
 }
@@ -63,7 +62,7 @@ fn wide(b: u8) -> u32
 
 // Of the first `held` bytes of a block, those after the last whole pair go to its start. Fewer than eight.
 pub fn keep_rest(held: usize, block: &mut [u8])
-    ensures { λ _. ⌜ now (block .exit) ≡ pick (leb held (length (now (block .entry)))) (over (held % 8) (λ k x. getD (now (block .entry)) (held / 8 * 8 + k) 0) (now (block .entry))) (now (block .entry)) ⌝ }
+    ensures { λ _. ⌜ KeepRest held (now (block .entry)) (now (block .exit)) ⌝ }
 {
     if block.len() < held {
         return;

@@ -4,10 +4,11 @@ ghost use Prim.Native.Nat.{_*_, _/_, _%_, _<_, _≤_, min};
 ghost use lib.ListN.{length};
 ghost use Rattle.laws.specs.Loops.{over};
 ghost use Rattle.wire.specs.Wire.{placeOf, byteOf, writtenAt};
+ghost use Rattle.wire.specs.Promises.{WriteSamples};
 
 // The samples' bytes in a row, as many as there is room for.
 pub fn write_samples(samples: &[f32], bytes: &mut [u8])
-    ensures { λ _. ⌜ now (bytes .exit) ≡ over (4 * length (now (samples .entry))) (λ i b. writtenAt (now (samples .entry)) i) (now (bytes .entry)) ⌝ }
+    ensures { λ _. ⌜ WriteSamples (now (samples .entry)) (now (bytes .entry)) (now (bytes .exit)) ⌝ }
 {
     let n = samples.len();
     let room = bytes.len();
