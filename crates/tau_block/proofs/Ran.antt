@@ -1,13 +1,14 @@
--- A block that ran says so: its outcome is no move, a rescue or a move, and the counter of transfers goes by it. And it hands the carry
--- on as it is. Assumes nothing.
-use mathlib.Core.Path.{_≡_, refl}
+-- A block that ran says so: its outcome is no move, a rescue or a move with a leak in its bounds, and the counter of transfers goes by
+-- it. And it hands the carry on as it is. Assumes nothing.
+use mathlib.Core.Path.{_≡_, refl, sym, subst}
 use mathlib.Core.Bool.{Bool}
 use mathlib.Core.List.{List}
 use Prim.Native.Nat.{ℕ}
-use lib.Dec.{ltb, leb}
+use lib.Dec.{T, ltb, leb}
 use lib.Ieee.{Float, lt, le}
 use Rattle.laws.specs.Choice.{pick-if}
 use Rattle.tau_steps.specs.Constants.{zero64, f0-1}
+use Rattle.tau_steps.specs.Bounds.{Leak}
 use Rattle.tau_steps.specs.After.{WroteBoth}
 use Rattle.tau_steps.specs.Paths.{advantageOf, verdict, counted, acted, compared}
 use Rattle.tau_steps.specs.declared.state.TauCanceller.{TauCanceller}
@@ -16,16 +17,19 @@ use Rattle.tau_steps.specs.declared.state.Paths.{Paths}
 use Rattle.tau_steps.specs.declared.report.Outcome.{Outcome}
 use Rattle.tau_steps.specs.declared.report.Outcome.the-variants.{NoMove, Rescue, Move}
 use Rattle.tau_steps.specs.declared.paths.Compared.{Compared}
+use Rattle.tau_steps.proofs.Bounds.{leak-bounds}
 use Rattle.tau_block.specs.Block.{compares, listen, runBlock}
 use Rattle.tau_block.specs.declared.block.Filtered.{Filtered}
 
-module _ (Q : Outcome → Type 0) (none : Q NoMove) (rescue : Q Rescue) (move : (leak : Float) → Q (Move leak)) where
+module _ (Q : Outcome → Type 0) (none : Q NoMove) (rescue : Q Rescue) (move : (leak : Float) → Leak leak → Q (Move leak)) where
   decided : (q : Paths) → Q (verdict q)
   unfolding verdict
   decided q =
       pick-if Q (leb 8 (q .«rescue_streak»)) (λ _. rescue)
       (λ _. pick-if Q (ltb (q .«quiet_streak») 6) (λ _. none)
-      (λ _. pick-if Q (lt zero64 (q .«output_error_power»)) (λ _. pick-if Q (le f0-1 (advantageOf q)) (λ _. move _) (λ _. none)) (λ _. none)))
+      (λ _. pick-if Q (lt zero64 (q .«output_error_power»))
+      (λ _. pick-if Q (le f0-1 (advantageOf q)) (λ h. move _ (leak-bounds (advantageOf q) (subst T (sym h) tt))) (λ _. none))
+      (λ _. none)))
 
   compared-outcome : (on quiet : Bool) (es eo : List Float) (v : ℕ) (p : Paths) (n : ℕ) (sh ou : List Float) → Q (compared on quiet es eo v p n sh ou .answer .outcome)
   unfolding compared acted
@@ -41,10 +45,15 @@ module _ (Q : Outcome → Type 0) (none : Q NoMove) (rescue : Q Rescue) (move : 
   unfolding listen
   listen-outcome parts flag head sounded active xs near n adapt m sh ou = compares-outcome adapt active near _ n _ m _ _
 
-  -- What holds of the three cases holds of a block's outcome.
-  pub ran-outcome : (s : TauCanceller) (near far : List Float) (n : ℕ) (adapt : Bool) (sh ou xs : List Float) → Q (runBlock s near far n adapt sh ou xs .answer .outcome)
+  -- What holds of the three cases, of a move with a leak in its bounds, holds of a block's outcome.
+  pub ran-bounded : (s : TauCanceller) (near far : List Float) (n : ℕ) (adapt : Bool) (sh ou xs : List Float) → Q (runBlock s near far n adapt sh ou xs .answer .outcome)
   unfolding runBlock
-  ran-outcome s near far n adapt sh ou xs = listen-outcome (s .partitions) (s .suppress) _ _ _ _ near n adapt (s .mic) sh ou
+  ran-bounded s near far n adapt sh ou xs = listen-outcome (s .partitions) (s .suppress) _ _ _ _ near n adapt (s .mic) sh ou
+
+-- So does what holds of them whatever the leak.
+pub ran-outcome : (Q : Outcome → Type 0) → Q NoMove → Q Rescue → ((leak : Float) → Q (Move leak)) → (s : TauCanceller) (near far : List Float) (n : ℕ)
+    (adapt : Bool) (sh ou xs : List Float) → Q (runBlock s near far n adapt sh ou xs .answer .outcome)
+ran-outcome Q none rescue move = ran-bounded Q none rescue (λ leak _. move leak)
 
 -- What a block hands on.
 pub record Handed (s t : TauCanceller) : Type 0 where
