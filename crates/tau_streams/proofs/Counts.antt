@@ -25,18 +25,13 @@ use Rattle.tau_steps.specs.declared.state.TauCanceller.{TauCanceller}
 use Rattle.tau_block.specs.Block.{runBlock}
 use Rattle.tau_block.proofs.Kept.{ranges-kept, lengths-kept, length-block}
 use Rattle.tau.specs.Fresh.{freshMic, freshOf}
-use Rattle.tau_frame.specs.Pairs.{Engine, Run, waitsOf, carrying, blockOf, fillOf, pairOf, pairsOf, flushedOf}
+use Rattle.tau_frame.specs.Pairs.{Engine, Run, waitsOf, carrying, blockOf, fillOf, pairOf, pairsOf, flushedOf, deliversOf}
 use Rattle.tau.specs.Calls.{createRefusal, Called, begunOf, createOf, resetOf, refusedOf, servedOf, processOf, flushOf}
-use Rattle.tau_frame.specs.Pairs.{deliversOf}
-use Rattle.tau_streams.specs.Stream.{Sound, Good, begunBy}
+use Rattle.tau_streams.specs.Stream.{Sound, Good, begunBy, withCarry, Delivery}
 use Rattle.tau.specs.Calls.{stateNumber, processNumber, flushNumber}
 use Rattle.tau.proofs.Accepted.{accepted-state, state-accepted, accepted-pairs, accepted-flush, accepted-settings, create-began, reset-began, process-ran, flush-ran}
 
 -- ---- a block
-
--- the engine with another carry
-abbrev withCarry : Engine → List Float → List Float → ℕ → Engine
-withCarry e ns fs c = record { state = carrying (e .state) ns fs c; shadow = e .shadow; output = e .output; spectra = e .spectra }
 
 -- the engine that a block is run on: nothing is carried
 abbrev emptied : Engine → Engine
@@ -282,15 +277,7 @@ flushed-waits e h = sym (pick-yes _ _ _ (eq-eqb (e .state .carried) 0 h) refl)
 
 -- ---- what a call delivers
 
--- An accepted call, of which r is the run and n its number of samples: it answers 0 and delivers n. These are the first places of the
--- output buffer, which keeps its length, and the rest of it is as it was.
-pub record Delivery (r : Run) (n : ℕ) (out : List Float) (c : Called) : Type 0 where
-  pub accepted : c .answer .refusal ≡ 0
-  pub count : c .answer .delivered ≡ n
-  pub long : length (c .out) ≡ length out
-  pub samples : take n (c .out) ≡ r .samples
-  pub rest : drop n (c .out) ≡ drop n out
-
+-- the samples over the front of the output buffer
 served-delivery : (r : Run) (n : ℕ) (out : List Float) → length (r .samples) ≡ n → n ≤ length out → Delivery r n out (servedOf r out)
 served-delivery r n out d room =
     let s = r .samples in

@@ -21,7 +21,8 @@ use Rattle.tau_steps.specs.Ranges.{Ranged}
 use Rattle.tau_steps.specs.Report.{reportOf}
 use Rattle.tau_frame.specs.Pairs.{Engine, Run, waitsOf, pairOf, lastOf, pairsOf}
 use Rattle.tau.specs.Calls.{Called, servedOf, processOf}
-use Rattle.tau_streams.specs.Stream.{Sound, leftBy, ranBy, Part, Level, Roomy, nearOf, farOf, joined, thenOf, partsOf, rowOf, AllAccepted}
+use Rattle.streams.specs.Parts.{Part, Level, allNear, allFar}
+use Rattle.tau_streams.specs.Stream.{Sound, leftBy, ranBy, Roomy, joined, thenOf, partsOf, rowOf, AllAccepted}
 use Rattle.tau.specs.Calls.{processNumber}
 use Rattle.tau_frame.proofs.Later.{last-first, last-assoc}
 use Rattle.tau.proofs.Accepted.{Process, state-accepted, accepted-pairs, process-accepted, process-answers, process-ran}
@@ -52,17 +53,17 @@ cut e (x ∷ a) b (y ∷ c) d h =
     ap (joined t) (cut (t .engine) a b c d (omega arith)) ∙ joined-assoc t first (pairsOf (first .engine) b d)
 
 -- A stream cut anyhow: the parts run one after the other give what the whole stream gives.
-pub parts-join : (e : Engine) (ps : List Part) → All Level ps → partsOf e ps ≡ pairsOf e (nearOf ps) (farOf ps)
-unfolding partsOf nearOf farOf pairsOf
+pub parts-join : (e : Engine) (ps : List Part) → All Level ps → partsOf e ps ≡ pairsOf e (allNear ps) (allFar ps)
+unfolding partsOf allNear allFar pairsOf
 parts-join e [] h = refl
 parts-join e (p ∷ ps) h =
     let run = pairsOf e (p .near) (p .far) in
-    ap (joined run) (parts-join (run .engine) ps (record { each = h .each .1 })) ∙ sym (cut e (p .near) (nearOf ps) (p .far) (farOf ps) (h .each .0 .level))
+    ap (joined run) (parts-join (run .engine) ps (record { each = h .each .1 })) ∙ sym (cut e (p .near) (allNear ps) (p .far) (allFar ps) (h .each .0 .level))
 
 -- Two cuts of one stream agree.
-pub cuts-agree : (e : Engine) (ps qs : List Part) → All Level ps → All Level qs → nearOf ps ≡ nearOf qs → farOf ps ≡ farOf qs → partsOf e ps ≡ partsOf e qs
+pub cuts-agree : (e : Engine) (ps qs : List Part) → All Level ps → All Level qs → allNear ps ≡ allNear qs → allFar ps ≡ allFar qs → partsOf e ps ≡ partsOf e qs
 cuts-agree e ps qs hp hq n f =
-    parts-join e ps hp ∙ ap (λ (l : List Float). pairsOf e l (farOf ps)) n ∙ ap (pairsOf e (nearOf qs)) f ∙ sym (parts-join e qs hq)
+    parts-join e ps hp ∙ ap (λ (l : List Float). pairsOf e l (allFar ps)) n ∙ ap (pairsOf e (allNear qs)) f ∙ sym (parts-join e qs hq)
 
 -- ---- rows of calls
 
@@ -106,8 +107,8 @@ first-process e p z = accepted-pairs (e .state) _ _ _ _ _ _ z
 
 -- A row of accepted calls leaves the state and the buffers, delivers the samples, and last reports the outcome, of the run over the whole
 -- stream.
-pub row-runs : (e : Engine) (ps : List Part) → AllAccepted e ps → rowOf e ps .run ≡ pairsOf e (nearOf ps) (farOf ps)
-unfolding rowOf nearOf farOf pairsOf
+pub row-runs : (e : Engine) (ps : List Part) → AllAccepted e ps → rowOf e ps .run ≡ pairsOf e (allNear ps) (allFar ps)
+unfolding rowOf allNear allFar pairsOf
 row-runs e [] h = refl
 row-runs e (p ∷ ps) h =
     let z = sym (process-answers e (p .near) (p .far) (p .out)) ∙ h .each .0 in
@@ -116,43 +117,43 @@ row-runs e (p ∷ ps) h =
     let rest = row-runs (run .engine) ps (subst (λ (r : Run). AllAccepted (r .engine) ps) k (record { each = h .each .1 })) in
     ap (λ (r : Run). joined r (rowOf (r .engine) ps .run)) k
     ∙ ap (joined run) rest
-    ∙ sym (cut e (p .near) (nearOf ps) (p .far) (farOf ps) (first-process e p z .pairs .level))
+    ∙ sym (cut e (p .near) (allNear ps) (p .far) (allFar ps) (first-process e p z .pairs .level))
 
 -- accepted calls are given as many near as far samples
-pub row-level : (e : Engine) (ps : List Part) → AllAccepted e ps → length (nearOf ps) ≡ length (farOf ps)
-unfolding rowOf nearOf farOf
+pub row-level : (e : Engine) (ps : List Part) → AllAccepted e ps → length (allNear ps) ≡ length (allFar ps)
+unfolding rowOf allNear allFar
 row-level e [] h = refl
 row-level e (p ∷ ps) h =
     let z = sym (process-answers e (p .near) (p .far) (p .out)) ∙ h .each .0 in
     let one = first-process e p z .pairs .level in
     let rest = row-level (leftBy (processOf e (p .near) (p .far) (p .out))) ps (record { each = h .each .1 }) in
-    omega (arith, length-append (p .near) (nearOf ps), length-append (p .far) (farOf ps))
+    omega (arith, length-append (p .near) (allNear ps), length-append (p .far) (allFar ps))
 
 -- So from a state in range they have delivered the whole blocks of what was carried at first and all pairs since,
 pub row-delivers : (e : Engine) (ps : List Part) → Ranged (e .state) → AllAccepted e ps
-    → length (rowOf e ps .run .samples) ≡ (e .state .carried + length (nearOf ps)) / 256 * 256
-row-delivers e ps s h = ap (λ (r : Run). length (r .samples)) (row-runs e ps h) ∙ delivers e (nearOf ps) (farOf ps) s (row-level e ps h)
+    → length (rowOf e ps .run .samples) ≡ (e .state .carried + length (allNear ps)) / 256 * 256
+row-delivers e ps s h = ap (λ (r : Run). length (r .samples)) (row-runs e ps h) ∙ delivers e (allNear ps) (allFar ps) s (row-level e ps h)
 
 -- and the rest is carried.
 pub row-carries : (e : Engine) (ps : List Part) → Ranged (e .state) → AllAccepted e ps
-    → rowOf e ps .run .engine .state .carried ≡ (e .state .carried + length (nearOf ps)) % 256
-row-carries e ps s h = ap (λ (r : Run). r .engine .state .carried) (row-runs e ps h) ∙ carries e (nearOf ps) (farOf ps) s (row-level e ps h)
+    → rowOf e ps .run .engine .state .carried ≡ (e .state .carried + length (allNear ps)) % 256
+row-carries e ps s h = ap (λ (r : Run). r .engine .state .carried) (row-runs e ps h) ∙ carries e (allNear ps) (allFar ps) s (row-level e ps h)
 
 -- Two rows of accepted calls over one stream agree.
-pub rows-agree : (e : Engine) (ps qs : List Part) → AllAccepted e ps → AllAccepted e qs → nearOf ps ≡ nearOf qs → farOf ps ≡ farOf qs
+pub rows-agree : (e : Engine) (ps qs : List Part) → AllAccepted e ps → AllAccepted e qs → allNear ps ≡ allNear qs → allFar ps ≡ allFar qs
     → rowOf e ps .run ≡ rowOf e qs .run
 rows-agree e ps qs hp hq n f =
-    let k : pairsOf e (nearOf ps) (farOf ps) ≡ pairsOf e (nearOf qs) (farOf qs) = rw (n, f) in
+    let k : pairsOf e (allNear ps) (allFar ps) ≡ pairsOf e (allNear qs) (allFar qs) = rw (n, f) in
     row-runs e ps hp ∙ k ∙ sym (row-runs e qs hq)
 
 -- ---- a call cut into calls
 
 -- no part is longer than the whole
-parts-fair : (ps : List Part) → length (nearOf ps) ≤ 4096 → All Level ps → All Fair ps
-unfolding nearOf
+parts-fair : (ps : List Part) → length (allNear ps) ≤ 4096 → All Level ps → All Fair ps
+unfolding allNear
 parts-fair [] h l = all-none
 parts-fair (p ∷ ps) h l =
-    let k = length-append (p .near) (nearOf ps) in
+    let k = length-append (p .near) (allNear ps) in
     all-cons (record { level = l .each .0 .level; few = omega arith }) (parts-fair ps (omega arith) (record { each = l .each .1 }))
 
 -- An accepted call cut anyhow into calls, each with as many near as far samples and with room for what it delivers: they are all
@@ -162,10 +163,10 @@ pub record SameCall (e : Engine) (ps : List Part) (call : Called) : Type 0 where
   pub run : rowOf e ps .run ≡ ranBy call
 
 pub cut-call : (e : Engine) (ps : List Part) (out : List Float) → All Level ps → Roomy (e .state .carried) ps
-    → processOf e (nearOf ps) (farOf ps) out .answer .refusal ≡ 0 → SameCall e ps (processOf e (nearOf ps) (farOf ps) out)
+    → processOf e (allNear ps) (allFar ps) out .answer .refusal ≡ 0 → SameCall e ps (processOf e (allNear ps) (allFar ps) out)
 cut-call e ps out l r h =
-    let z = sym (process-answers e (nearOf ps) (farOf ps) out) ∙ h in
+    let z = sym (process-answers e (allNear ps) (allFar ps) out) ∙ h in
     let a = accepted-pairs (e .state) (length (e .shadow)) (length (e .output)) (length (e .spectra)) _ _ _ z in
     let s = state-sound e (state-accepted (e .state) _ _ _ (a .state)) in
     let t = row-accepted e ps s (parts-fair ps (a .pairs .few) l) r in
-    record { accepted = t; run = row-runs e ps t ∙ sym (call-ran e (nearOf ps) (farOf ps) out z) }
+    record { accepted = t; run = row-runs e ps t ∙ sym (call-ran e (allNear ps) (allFar ps) out z) }
