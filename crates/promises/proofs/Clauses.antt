@@ -1,5 +1,5 @@
 -- Sentences of document 01, from what is proved in each crate. Assumes nothing.
-use mathlib.Core.Path.{_≡_, refl, sym, ap, _∙_}
+use mathlib.Core.Path.{_≡_, refl, _∙_}
 use mathlib.Core.Bool.{true, false}
 use Prim.Native.Nat.{ℕ, _+_, _-_, _^_, _≤_, _<_, min}
 use native.Mathlib.Omega.{arith}
@@ -13,7 +13,7 @@ use Rattle.numbers.specs.Order.{minOf, maxOf}
 use Rattle.numbers.specs.Narrowing.{narrowOf}
 use Rattle.numbers.proofs.Narrowed.{narrow-exact, narrow-huge, narrow-small}
 use Rattle.numbers.proofs.Ordered.{clamp-nan}
-use Rattle.trig.proofs.Angles.{turns-round, angle-even}
+use Rattle.trig.proofs.Angles.{two-pi, half-pi, turns-round, angle-even}
 use Rattle.trig.proofs.Entries.{recombination-at, twiddle-at, length-recombination}
 use Rattle.complex_fft.specs.Reversal.{rev8, reversalTable}
 use Rattle.complex_fft.proofs.Reversing.{at-entry}
@@ -21,7 +21,7 @@ use Rattle.rho_taps.specs.Update as rhoUpdate
 use Rattle.tau_steps.specs.Paths.{counted}
 use Rattle.tau_steps.specs.Constants.{oneMore, oneMore32}
 use Rattle.tau_block.proofs.Bounds.{step-factor, target-bounds}
-use Rattle.promises.specs.Clauses.{Narrowing, Extremes, Rounds, Entries, Reversal, StepFactor, SuppressorTarget, Counters}
+use Rattle.promises.specs.Clauses.{Narrowing, Extremes, Constants, Rounds, Entries, Reversal, StepFactor, SuppressorTarget, Counters}
 
 -- ---- numbers
 
@@ -50,6 +50,9 @@ unfolding minOf maxOf pick isNan
 extremes x lo hi = (refl, min-nan x, refl, max-nan x, clamp-nan lo hi)
 
 -- ---- the tables
+
+pub constants : Constants
+constants = (two-pi, half-pi)
 
 pub rounds : Rounds
 rounds = (turns-round, angle-even)

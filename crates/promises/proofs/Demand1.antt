@@ -1,11 +1,10 @@
 -- Demand 1, from what each crate proves of its calls. Assumes nothing.
 use mathlib.Core.Path.{_≡_, refl, sym, ap, _∙_}
-use mathlib.Core.Bool.{Bool, true, false, _&&_}
+use mathlib.Core.Bool.{Bool, true, false}
 use mathlib.Core.List.{List, [], _∷_, _++_}
 use Prim.Native.Nat.{ℕ}
 use lib.Dec.{eqb}
 use lib.Ieee.{Float}
-use lib.ListN.{length}
 use Rattle.laws.specs.Choice.{pick, pick-yes, pick-no, pick-if}
 use Rattle.complex_fft.specs.Calls.{Wrote, complexOf}
 use Rattle.fft.specs.Calls.{lentOf, forwardOf, inverseOf, forwardWithOf, inverseWithOf, halfWithOf}
@@ -16,7 +15,7 @@ use Rattle.tau_steps.specs.Ranges.{rangedOf}
 use Rattle.tau.specs.Fresh.{emptyOf}
 use Rattle.tau.specs.Calls as tau
 use Rattle.tau.proofs.Accepted as accepted
-use Rattle.promises.specs.Demand1.{Test, firstOf, Holding, Exactly, Transform, ComplexTransform, lent, LentTransform, tauCreate, tauProcess, tauFlush, tauReset, tauUntouched, unbegunOf, tauUnbegun, rhoCreate, rhoProcess, rhoState, rhoUntouched, rhoUnbegun}
+use Rattle.promises.specs.Demand1.{Test, firstOf, Holding, Exactly, Transform, ComplexTransform, LentTransform, tauCreate, tauProcess, tauFlush, tauReset, tauUntouched, unbegunOf, tauUnbegun, rhoCreate, rhoProcess, rhoState, rhoUntouched, rhoUnbegun}
 
 -- ---- the table
 

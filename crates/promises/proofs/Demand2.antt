@@ -1,9 +1,8 @@
 -- Demand 2, from what each crate proves of its calls. Assumes nothing.
 use mathlib.Core.Path.{_≡_, refl, sym, ap, _∙_}
-use mathlib.Core.List.{List}
-use lib.Ieee.{Float}
 use Rattle.laws.specs.Choice.{pick-if}
-use Rattle.fft.proofs.Served.{forward-served, inverse-served}
+use Rattle.complex_fft.proofs.Served.{complex-served}
+use Rattle.fft.proofs.Served.{forward-served, inverse-served, forward-with-served, inverse-with-served, half-with-served}
 use Rattle.rho_streams.proofs.Counts as rhoCounts
 use Rattle.tau_block.specs.Resets.{clearsOf, howMany}
 use Rattle.tau_block.proofs.Ran.{ran-transfers}
@@ -15,10 +14,17 @@ use Rattle.tau.specs.Calls as tau
 use Rattle.tau.proofs.Accepted as accepted
 use Rattle.tau_streams.proofs.Counts as tauCounts
 use Rattle.tau_streams.proofs.Outcomes.{process-reports, flush-reports, process-none, process-some, flush-none, flush-some, process-leak, flush-leak}
-use Rattle.promises.specs.Demand2.{Transform, TauBegins, RhoBegins, TauRuns, RhoRuns, TauWrites, RhoWrites, TauIdle, TauReports, RhoReports, Leaks, Transfers, Resets, Clears}
+use Rattle.promises.specs.Demand2.{Transform, ComplexTransform, LentTransform, TauBegins, RhoBegins, TauRuns, RhoRuns, TauWrites, RhoWrites, TauIdle, TauReports, RhoReports, Leaks, Transfers, Resets, Clears}
 
 pub transform : Transform
 transform x s out h k = (forward-served x out h, inverse-served s out k)
+
+pub complex-transform : ComplexTransform
+complex-transform = complex-served
+
+pub lent-transform : LentTransform
+lent-transform t scratch x s out later a b h k =
+    (forward-with-served t scratch a b x out h, inverse-with-served t scratch a b s out k, half-with-served t scratch a b s later out k)
 
 -- ---- accepted calls
 

@@ -1,5 +1,5 @@
 -- Demand 3, from the theorems on streams of the two engines. Assumes nothing.
-use mathlib.Core.Path.{_≡_, refl, sym, ap, _∙_}
+use mathlib.Core.Path.{_≡_, sym, ap, _∙_}
 use mathlib.Core.Bool.{true}
 use Prim.Native.Nat.{ℕ}
 use native.Mathlib.Omega.{arith}
@@ -21,9 +21,9 @@ use Rattle.tau_streams.specs.Stream.{Good, Since, Uncut}
 use Rattle.tau_streams.proofs.Counts.{sound-accepted}
 use Rattle.tau_streams.proofs.Cut.{rows-agree, cut-call}
 use Rattle.tau_streams.proofs.Since.{now-good, created-calls, reset-calls, since-delivers, since-waits, since-flush, since-blocks, since-rest}
-use Rattle.tau_streams.proofs.Silence.{singer-places, singer-flushed, first-places}
+use Rattle.tau_streams.proofs.Silence.{singer-places, singer-flushed, first-places, three-samples}
 use Rattle.promises.specs.Demand1.{tauSized, rhoSized}
-use Rattle.promises.specs.Demand3.{TauReady, TauHolds, TauCalls, TauCuts, TauParts, Sounds, TauSilence, TauSinger, RhoReady, RhoHolds, RhoCalls, RhoFlush, RhoCounts, RhoCuts, RhoParts, RhoPair, RhoFreeze, RhoUpdates}
+use Rattle.promises.specs.Demand3.{TauReady, TauHolds, TauCalls, TauCuts, TauParts, Sounds, TauSilence, TauSinger, TauThree, RhoReady, RhoHolds, RhoCalls, RhoFlush, RhoCounts, RhoCuts, RhoParts, RhoPair, RhoFreeze, RhoUpdates}
 
 -- ---- TauCanceller
 
@@ -83,6 +83,9 @@ tau-silence = first-places
 
 pub tau-singer : TauSinger
 tau-singer e cs b g = (singer-places e cs b g, λ out f. singer-flushed e cs out b g f)
+
+pub tau-three : TauThree
+tau-three = three-samples
 
 -- ---- RhoCanceller
 

@@ -11,7 +11,7 @@ use lib.Ieee.{Float, nan, inf, fin, binary32, up, down, fits, isNan, toBits}
 use Rattle.numbers.specs.Order.{minOf, maxOf, clampOf}
 use Rattle.numbers.specs.Narrowing.{narrowOf}
 use Rattle.numbers.specs.Zeros.{Finite}
-use Rattle.trig.specs.Trig.{_⊘_, twoPi, angle, turns, roundAway, detSin, detCos}
+use Rattle.trig.specs.Trig.{_⊗_, _⊘_, whole, half, pi, twoPi, halfPi, angle, turns, roundAway, detSin, detCos}
 use Rattle.trig.specs.Tables.{recombination, twiddleRe, twiddleIm}
 use Rattle.complex_fft.specs.Reversal.{reversalTable, Reversed}
 use Rattle.rho_taps.specs.Update.{clearedOf}
@@ -39,6 +39,10 @@ Extremes = (x lo hi : Float)
     → (minOf nan x ≡ x) × (minOf x nan ≡ x) × (maxOf nan x ≡ x) × (maxOf x nan ≡ x) × (clampOf nan lo hi ≡ nan)
 
 -- ---- the tables
+
+-- TWO_PI and HALF_PI, whose bits stand in the code, are the Rust's products of PI
+abbrev pub Constants : Type 0
+Constants = (twoPi ≡ whole 2 ⊗ pi) × (halfPi ≡ half ⊗ pi)
 
 -- "For our angles, `(x / TWO_PI).round()` is -1 where the ratio is -0.5 and -0.0 otherwise": this rule, `turns`, is Rust's round at each of
 -- the 257 angles, and the 128 angles of the twiddles are among them

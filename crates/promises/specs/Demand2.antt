@@ -9,7 +9,12 @@ use mathlib.Core.List.{List}
 use Prim.Native.Nat.{ℕ, _+_, _-_, _^_, _≤_, min}
 use lib.Ieee.{Float}
 use lib.ListN.{length}
-use Rattle.fft.specs.Calls.{forwardOf, inverseOf, spectrumOf, samplesOf}
+use Rattle.trig.specs.Tables.{recombination}
+use Rattle.complex_fft.specs.Reversal.{reversalTable}
+use Rattle.complex_fft.specs.ComplexFft.{runOf}
+use Rattle.complex_fft.specs.Calls.{complexOf}
+use Rattle.fft.specs.RealFft.{spectrumWith, samplesWith}
+use Rattle.fft.specs.Calls.{forwardOf, inverseOf, spectrumOf, samplesOf, forwardWithOf, inverseWithOf, halfOfSamples, halfWithOf}
 use Rattle.rho.specs.Sample as sample
 use Rattle.rho.specs.Calls as rho
 use Rattle.rho.specs.State as rhoStates
@@ -30,6 +35,17 @@ abbrev pub Transform : Type 0
 Transform = (x s out : List Float) → length x ≡ 512 → length s ≡ 514
     → (length out ≡ 514 → forwardOf x out ≡ record { answer = 0; out = spectrumOf x })
     × (length out ≡ 512 → inverseOf s out ≡ record { answer = 0; out = samplesOf s })
+
+-- the transform of 256 points, and the forms over a lent table t and a lent scratch
+abbrev pub ComplexTransform : Type 0
+ComplexTransform = (inverse : Bool) (points : List Float) → length points ≡ 512
+    → complexOf inverse points ≡ record { answer = 0; out = runOf recombination reversalTable inverse points }
+
+abbrev pub LentTransform : Type 0
+LentTransform = (t scratch x s out : List Float) (later : Bool) → length t ≡ 514 → length scratch ≡ 1024 → length x ≡ 512 → length s ≡ 514
+    → (length out ≡ 514 → forwardWithOf t scratch x out ≡ record { answer = 0; out = spectrumWith t reversalTable x })
+    × (length out ≡ 512 → inverseWithOf t scratch s out ≡ record { answer = 0; out = samplesWith t reversalTable s })
+    × (length out ≡ 256 → halfWithOf t scratch s later out ≡ record { answer = 0; out = halfOfSamples later (samplesWith t reversalTable s) })
 
 -- ---- accepted calls
 

@@ -22,7 +22,7 @@ use Rattle.tau_frame.specs.Pairs.{Engine, deliversOf, blockOf, flushedOf}
 use Rattle.tau.specs.Calls as tau
 use Rattle.tau_streams.specs.Stream.{Roomy, rowOf, AllAccepted, ranBy, begunBy, Call, Since, anew, afterCalls, byBlocks, paddedRest}
 use Rattle.tau_streams.specs.Stream.Call.{feed, flush}
-use Rattle.tau_streams.specs.Silence.{Begins, callsOf, takenOf, givenOf, Gentle, filledBy}
+use Rattle.tau_streams.specs.Silence.{Begins, callsOf, AllTaken, takenOf, givenOf, Gentle, filledBy}
 use Rattle.promises.specs.Demand1.{tauSized, rhoSized}
 
 -- ---- TauCanceller
@@ -97,6 +97,15 @@ TauSinger = (e : Engine) (cs : List Call) → Begins e → All Gentle (takenOf e
     → getD (callsOf e cs .run .samples) i nan ≡ finiteOrZero (getD (givenOf (takenOf e cs)) i nan))
     × ((out : List Float) → tau.flushOf (callsOf e cs .run .engine) out .answer .refusal ≡ 0
     → callsOf e (cs ++ (flush out ∷ [])) .run .samples ≡ map finiteOrZero (givenOf (takenOf e cs)))
+
+-- "near 1.0, -0.0, NaN with far 0.0 three times", in one process, and a flush: 1.0, -0.0, 0.0
+abbrev pub TauThree : Type 0
+TauThree = (e : Engine) (p : Part) (out : List Float) →
+    let one = ofBits binary32 0x3F80_0000 in
+    let minus = ofBits binary32 0x8000_0000 in
+    let zero = ofBits binary32 0 in
+    Begins e → p .near ≡ one ∷ minus ∷ nan ∷ [] → p .far ≡ zero ∷ zero ∷ zero ∷ []
+    → AllTaken e (feed p ∷ flush out ∷ []) → callsOf e (feed p ∷ flush out ∷ []) .run .samples ≡ one ∷ minus ∷ zero ∷ []
 
 -- ---- RhoCanceller
 

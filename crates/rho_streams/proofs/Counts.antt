@@ -7,13 +7,13 @@
 --     process-refused      a refused one delivers nothing and changes nothing
 --     flush-untouched, flush-waits     a flush delivers nothing and changes nothing
 use mathlib.Core.Path.{_≡_, refl, sym, ap, _∙_, subst}
-use mathlib.Core.List.{List, [], _∷_, _++_}
+use mathlib.Core.List.{List, [], _∷_}
 use Prim.Native.Nat.{ℕ, suc}
 use native.Mathlib.Omega.{arith}
 use borrow.Author.Tests.{eqb-true, eq-eqb, ne-eqb}
 use lib.Dec.{eqb}
 use lib.Ieee.{Float}
-use lib.ListN.{length, take, drop, length-append, length-drop}
+use lib.ListN.{length, drop, length-append, length-drop}
 use lib.Seq.{take-at, drop-at}
 use Rattle.laws.specs.Choice.{pick-yes, pick-no, pick-if}
 use Rattle.rho.specs.State.{tapsOf, hangoverOf, emptyOf}

@@ -1,7 +1,5 @@
 -- How a stream is cut into calls does not matter. Assumes nothing.
 --     cut                  a stream cut in two: the engine and the samples are those of the two runs, one after the other
---     parts-join           a stream cut anyhow: the same of all its parts
---     cuts-agree           so two cuts of one stream agree
 --     step-ranged, step-ready, pairs-ready     a pair, and a run, keep a state in range and buffers of its size
 --     created-ready, reset-ready     and so creation and reset leave it
 --     ready-accepted, process-accepted     so it is accepted, and pairs with it that are in order by themselves
@@ -30,8 +28,9 @@ use Rattle.rho.specs.Sample.{Engine, freezeOf, afterOf, stepOf}
 use Rattle.rho_taps.specs.Update.{Adapted, updatedOf, clearedOf, adaptedOf}
 use Rattle.rho.specs.Pairs.{Run, pairsOf}
 use Rattle.rho.specs.Calls.{settingsOf, sizedOf, rangedOf, createRefusal, stateRefusal, pairsRefusal, processRefusal, Called, begunOf, createOf, resetOf, processOf}
-use Rattle.streams.specs.Parts.{Part, Level, allNear, allFar}
-use Rattle.rho_streams.specs.Stream.{begunBy, leftBy, ranBy, stateNumber, processNumber, Room, waitsOf, joined, thenOf, partsOf, rowOf, AllAccepted, takenBy}
+use Rattle.streams.specs.Parts.{Part, Level, Fair, allNear, allFar}
+use Rattle.streams.proofs.Parts.{parts-fair}
+use Rattle.rho_streams.specs.Stream.{begunBy, leftBy, ranBy, processNumber, Room, joined, thenOf, rowOf, AllAccepted, takenBy}
 use Rattle.rho.proofs.Going.{next-small}
 use Rattle.rho.proofs.Accepted.{Ranged, State, accepted-state, Pairs, accepted-pairs, taps-some}
 use Rattle.rho_streams.proofs.Counts.{delivers, create-answers, create-began, reset-answers, reset-began, process-answers, process-ran, process-delivers}
@@ -47,20 +46,6 @@ cut e (x ∷ a) b [] d h = absurd (omega arith)
 cut e (x ∷ a) b (y ∷ c) d h =
     let t = takenBy e x y in
     ap (λ (r : Run). record { engine = r .engine; samples = t .output ∷ r .samples }) (cut (t .engine) a b c d (omega arith))
-
--- A stream cut anyhow: the parts run one after the other give what the whole stream gives.
-pub parts-join : (e : Engine) (ps : List Part) → All Level ps → partsOf e ps ≡ pairsOf e (allNear ps) (allFar ps)
-unfolding partsOf allNear allFar pairsOf
-parts-join e [] h = refl
-parts-join e (p ∷ ps) h =
-    let run = pairsOf e (p .near) (p .far) in
-    ap (joined run) (parts-join (run .engine) ps (record { each = h .each .1 }))
-    ∙ sym (cut e (p .near) (allNear ps) (p .far) (allFar ps) (h .each .0 .level))
-
--- Two cuts of one stream agree.
-pub cuts-agree : (e : Engine) (ps qs : List Part) → All Level ps → All Level qs → allNear ps ≡ allNear qs → allFar ps ≡ allFar qs → partsOf e ps ≡ partsOf e qs
-cuts-agree e ps qs hp hq n f =
-    parts-join e ps hp ∙ ap (λ (l : List Float). pairsOf e l (allFar ps)) n ∙ ap (pairsOf e (allNear qs)) f ∙ sym (parts-join e qs hq)
 
 -- ---- a pair keeps the state in range and the buffers' sizes
 
@@ -187,10 +172,6 @@ process-accepted e near far out r p =
 
 -- ---- rows of calls
 
--- a part that is in order by itself: as many near as far samples, at most 4,096 of them, and room for as many
-pub record Fair (p : Part) : Type 0 where
-  pub pairs : Pairs (length (p .near)) (length (p .far)) (length (p .out))
-
 -- An accepted call leaves and delivers what the run over its pairs does.
 pub call-ran : (e : Engine) (near far out : List Float) → processNumber e near far out ≡ 0 → ranBy (processOf e near far out) ≡ pairsOf e near far
 call-ran e near far out h =
@@ -201,12 +182,14 @@ call-ran e near far out h =
     λ i. record { engine = left i; samples = given i }
 
 -- A row of calls is accepted where its first state is in range with buffers of its size, and each part is in order by itself.
-pub row-accepted : (e : Engine) (ps : List Part) → Ready e → All Fair ps → AllAccepted e ps
+pub row-accepted : (e : Engine) (ps : List Part) → Ready e → All Fair ps → All Room ps → AllAccepted e ps
 unfolding rowOf
-row-accepted e [] r h = all-none
-row-accepted e (p ∷ ps) r h =
-    let z = process-accepted e (p .near) (p .far) (p .out) r (h .each .0 .pairs) in
-    let rest = row-accepted (pairsOf e (p .near) (p .far) .engine) ps (pairs-ready e (p .near) (p .far) r) (record { each = h .each .1 }) in
+row-accepted e [] r h o = all-none
+row-accepted e (p ∷ ps) r h o =
+    let a = h .each .0 in
+    let z = process-accepted e (p .near) (p .far) (p .out) r (record { level = a .level; few = a .few; room = o .each .0 .room }) in
+    let next = pairs-ready e (p .near) (p .far) r in
+    let rest = row-accepted (pairsOf e (p .near) (p .far) .engine) ps next (record { each = h .each .1 }) (record { each = o .each .1 }) in
     all-cons (process-answers e (p .near) (p .far) (p .out) ∙ z) (subst (λ (r : Run). AllAccepted (r .engine) ps) (sym (call-ran e (p .near) (p .far) (p .out) z)) rest)
 
 -- A row of accepted calls leaves the state and the buffers, and delivers the samples, of the run over the whole stream.
@@ -246,16 +229,6 @@ rows-agree e ps qs hp hq n f =
 
 -- ---- a call cut into calls
 
--- no part is longer than the whole
-parts-fair : (ps : List Part) → length (allNear ps) ≤ 4096 → All Level ps → All Room ps → All Fair ps
-unfolding allNear
-parts-fair [] h l r = all-none
-parts-fair (p ∷ ps) h l r =
-    let k = length-append (p .near) (allNear ps) in
-    all-cons
-    (record { pairs = record { level = l .each .0 .level; few = omega arith; room = r .each .0 .room } })
-    (parts-fair ps (omega arith) (record { each = l .each .1 }) (record { each = r .each .1 }))
-
 -- An accepted call cut anyhow into calls, each with as many near as far samples and with room for as many: they are all accepted,
 -- and what they leave and deliver together is what the uncut call leaves and delivers.
 pub record SameCall (e : Engine) (ps : List Part) (call : Called) : Type 0 where
@@ -267,5 +240,5 @@ pub cut-call : (e : Engine) (ps : List Part) (out : List Float) → All Level ps
 cut-call e ps out l r h =
     let z = sym (process-answers e (allNear ps) (allFar ps) out) ∙ h in
     let a = accepted-pairs (e .state) (length (e .weights)) (length (e .history)) _ _ _ z in
-    let t = row-accepted e ps (a .state) (parts-fair ps (a .pairs .few) l r) in
+    let t = row-accepted e ps (a .state) (parts-fair ps (a .pairs .few) l) r in
     record { accepted = t; run = row-runs e ps t ∙ sym (call-ran e (allNear ps) (allFar ps) out z) }

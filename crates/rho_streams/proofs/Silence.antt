@@ -3,7 +3,7 @@
 --     pair-passes          a pair with a still far sample: near is delivered bit for bit, and the engine has still heard nothing
 --     passes               a stream with still far samples: near is delivered, every sample of it
 --     passes-first         whatever pairs come behind it, its samples are delivered so
-use mathlib.Core.Path.{_≡_, refl, sym, ap, _∙_, subst}
+use mathlib.Core.Path.{_≡_, refl, sym, ap, _∙_}
 use mathlib.Core.Bool.{Bool, true}
 use mathlib.Core.List.{List, [], _∷_, _++_, map}
 use mathlib.Core.Logic.{inl, inr}
@@ -16,7 +16,7 @@ use lib.Ieee.{Float, nan, binary32, binary64, add, sub, mul}
 use lib.Ieee.Fits.{fits-widens}
 use lib.ListN.{length, getD, take, replicate, length-set, length-replicate, length-map}
 use lib.Seq.{take-at}
-use Rattle.laws.specs.Choice.{pick, pick-if, both}
+use Rattle.laws.specs.Choice.{pick-if, both}
 use Rattle.laws.specs.Loops.{iter, length-over}
 use Rattle.laws.specs.Kinds.{All, Kept, all-get, all-set, all-replicate, all-over-to, all-places, iter-keeps}
 use Rattle.numbers.specs.Finite.{plus, isFinite, finiteOrZero}

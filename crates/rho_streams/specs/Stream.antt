@@ -76,11 +76,6 @@ joined first second = record { engine = second .engine; samples = first .samples
 abbrev pub thenOf : Engine → List Float → List Float → List Float → List Float → Run
 thenOf e a c b d = let first = pairsOf e a c in joined first (pairsOf (first .engine) b d)
 
--- the parts run one after the other, each from where the one before it ended
-unfoldable pub partsOf : Engine → List Part → Run
-partsOf e [] = waitsOf e
-partsOf e (p ∷ ps) = let run = pairsOf e (p .near) (p .far) in joined run (partsOf (run .engine) ps)
-
 -- what calls one after the other have made: the state and the buffers after the last, all delivered samples joined, and each call's
 -- refusal
 pub record Made : Type 0 where

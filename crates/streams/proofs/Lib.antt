@@ -1,2 +1,3 @@
-pub mod Sounds
+pub mod Parts
 pub mod Places
+pub mod Sounds

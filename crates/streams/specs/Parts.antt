@@ -1,6 +1,7 @@
 -- A stream cut into parts, for either engine. Definitions only.
 use mathlib.Core.Path.{_≡_}
 use mathlib.Core.List.{List, [], _∷_, _++_}
+use Prim.Native.Nat.{_≤_}
 use lib.Ieee.{Float}
 use lib.ListN.{length}
 
@@ -13,6 +14,11 @@ pub record Part : Type 0 where
 -- as many near samples as far samples
 pub record Level (p : Part) : Type 0 where
   pub level : length (p .near) ≡ length (p .far)
+
+-- and at most 4,096 of them
+pub record Fair (p : Part) : Type 0 where
+  pub level : length (p .near) ≡ length (p .far)
+  pub few : length (p .near) ≤ 4096
 
 -- the whole stream's near samples, and its far samples
 unfoldable pub allNear : List Part → List Float

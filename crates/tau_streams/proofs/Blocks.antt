@@ -17,7 +17,7 @@ use lib.ListN.{length, take, drop, set, replicate, length-drop, length-set, leng
 use lib.Seq.{take-at, drop-drop, take-suc-set, drop-set-lt, length-take-le}
 use Rattle.laws.specs.Choice.{pick-yes, pick-no}
 use Rattle.numbers.specs.Finite.{finiteOrZero}
-use Rattle.tau_frame.specs.Pairs.{Engine, Run, waitsOf, carrying, blockOf, fillOf, pairOf, pairsOf, flushedOf}
+use Rattle.tau_frame.specs.Pairs.{Engine, Run, waitsOf, blockOf, fillOf, pairOf, pairsOf, flushedOf}
 use Rattle.tau_block.specs.Block.{runBlock}
 use Rattle.tau_steps.specs.Constants.{zero32}
 use Rattle.tau_streams.specs.Stream.{Good, joined, cleanOf, withCarry, withCarryAfter, blockOn, blocksOf, writtenTo, carryOf, byBlocks}

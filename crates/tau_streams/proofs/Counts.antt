@@ -1,6 +1,5 @@
 -- What pairs and a flush keep of an engine, how many samples they deliver, and where a call puts them. Assumes nothing.
---     pair-sound, pairs-sound, flushed-sound     a pair, a run and a flush keep an engine in order,
---     pair-partitions, pairs-partitions, flushed-partitions     and its number of partitions
+--     pair-sound, pairs-sound, flushed-sound     a pair, a run and a flush keep an engine in order
 --     created-good, created-empty, reset-good, reset-empty     creation and reset leave an engine in order, and nothing carried
 --     state-sound, sound-accepted     an engine with an accepted state is in order, and one in order has an accepted state
 --     delivers, carries    N pairs over c carried ones deliver the whole blocks of c + N, and carry the rest
@@ -16,7 +15,7 @@ use native.Mathlib.Omega.{arith}
 use borrow.Author.Tests.{eqb-true, eqb-false, eq-eqb}
 use lib.Dec.{eqb}
 use lib.Ieee.{Float}
-use lib.ListN.{length, take, drop, length-append, length-drop, length-set, length-replicate}
+use lib.ListN.{length, drop, length-append, length-drop, length-set, length-replicate}
 use lib.Seq.{take-at, drop-at, length-take-le}
 use Rattle.laws.specs.Choice.{pick-yes, pick-if}
 use Rattle.tau_steps.specs.Constants.{zero32, zero64}
@@ -26,7 +25,7 @@ use Rattle.tau_block.specs.Block.{runBlock}
 use Rattle.tau_block.proofs.Kept.{ranges-kept, lengths-kept, length-block}
 use Rattle.tau.specs.Fresh.{freshMic, freshOf}
 use Rattle.tau_frame.specs.Pairs.{Engine, Run, waitsOf, carrying, blockOf, fillOf, pairOf, pairsOf, flushedOf, deliversOf}
-use Rattle.tau.specs.Calls.{createRefusal, Called, begunOf, createOf, resetOf, refusedOf, servedOf, processOf, flushOf}
+use Rattle.tau.specs.Calls.{createRefusal, begunOf, createOf, resetOf, refusedOf, servedOf, processOf, flushOf}
 use Rattle.tau_streams.specs.Stream.{Sound, Good, begunBy, withCarry, Delivery}
 use Rattle.tau.specs.Calls.{stateNumber, processNumber, flushNumber}
 use Rattle.tau.proofs.Accepted.{accepted-state, state-accepted, accepted-pairs, accepted-flush, accepted-settings, create-began, reset-began, process-ran, flush-ran}
@@ -129,25 +128,6 @@ unfolding flushedOf
 flushed-sound {n} {f} e h =
     pick-if (λ (r : Run). Sound n f (r .engine)) (eqb (e .state .carried) 0) (λ _. h)
     (λ _. block-sound e _ _ (e .state .carried) false (carry-sound e _ _ 0 (omega arith) (h .near) (h .far) h))
-
--- They keep the number of partitions.
-pub pair-partitions : (e : Engine) (x y : Float) → pairOf e x y .engine .state .partitions ≡ e .state .partitions
-unfolding pairOf
-pair-partitions e x y =
-    pick-if (λ (r : Run). r .engine .state .partitions ≡ e .state .partitions) (eqb (e .state .carried) 255)
-    (λ _. block-partitions (fillOf e x y) _ _ 256 true) (λ _. refl)
-
-pub pairs-partitions : (e : Engine) (near far : List Float) → pairsOf e near far .engine .state .partitions ≡ e .state .partitions
-unfolding pairsOf
-pairs-partitions e [] far = refl
-pairs-partitions e (x ∷ near) [] = refl
-pairs-partitions e (x ∷ near) (y ∷ far) = pairs-partitions (pairOf e x y .engine) near far ∙ pair-partitions e x y
-
-pub flushed-partitions : (e : Engine) → flushedOf e .engine .state .partitions ≡ e .state .partitions
-unfolding flushedOf
-flushed-partitions e =
-    pick-if (λ (r : Run). r .engine .state .partitions ≡ e .state .partitions) (eqb (e .state .carried) 0) (λ _. refl)
-    (λ _. block-partitions e _ _ (e .state .carried) false)
 
 -- ---- creation and reset
 

@@ -1,7 +1,5 @@
 -- How a stream is cut into calls does not matter. Assumes nothing.
 --     cut                  a stream cut in two: the engine, the samples and the last outcome are those of the two runs, one after the other
---     parts-join           a stream cut anyhow: the same of all its parts
---     cuts-agree           so two cuts of one stream agree
 --     served-ran, call-ran     an accepted call leaves, delivers and reports what the run over its pairs does
 --     row-accepted         a row of calls on an engine in order, each with as many near as far samples, at most 4,096, and room for what
 --                          it delivers, is accepted
@@ -11,7 +9,7 @@
 --     cut-call             an accepted call cut anyhow into calls with room: they are accepted, and leave, deliver and last report what it does
 use mathlib.Core.Path.{_≡_, refl, sym, ap, _∙_, subst}
 use mathlib.Core.List.{List, [], _∷_, _++_, append-assoc, append-nil}
-use Prim.Native.Nat.{ℕ, _+_, _*_, _/_, _%_, _≤_}
+use Prim.Native.Nat.{ℕ, _+_, _*_, _/_, _%_}
 use native.Mathlib.Omega.{arith}
 use lib.Ieee.{Float}
 use lib.ListN.{length, drop, length-append}
@@ -21,8 +19,9 @@ use Rattle.tau_steps.specs.Ranges.{Ranged}
 use Rattle.tau_steps.specs.Report.{reportOf}
 use Rattle.tau_frame.specs.Pairs.{Engine, Run, waitsOf, pairOf, lastOf, pairsOf}
 use Rattle.tau.specs.Calls.{Called, servedOf, processOf}
-use Rattle.streams.specs.Parts.{Part, Level, allNear, allFar}
-use Rattle.tau_streams.specs.Stream.{Sound, leftBy, ranBy, Roomy, joined, thenOf, partsOf, rowOf, AllAccepted}
+use Rattle.streams.specs.Parts.{Part, Level, Fair, allNear, allFar}
+use Rattle.streams.proofs.Parts.{parts-fair}
+use Rattle.tau_streams.specs.Stream.{Sound, leftBy, ranBy, Roomy, joined, thenOf, rowOf, AllAccepted}
 use Rattle.tau.specs.Calls.{processNumber}
 use Rattle.tau_frame.proofs.Later.{last-first, last-assoc}
 use Rattle.tau.proofs.Accepted.{Process, state-accepted, accepted-pairs, process-accepted, process-answers, process-ran}
@@ -52,19 +51,6 @@ cut e (x ∷ a) b (y ∷ c) d h =
     let first = pairsOf (t .engine) a c in
     ap (joined t) (cut (t .engine) a b c d (omega arith)) ∙ joined-assoc t first (pairsOf (first .engine) b d)
 
--- A stream cut anyhow: the parts run one after the other give what the whole stream gives.
-pub parts-join : (e : Engine) (ps : List Part) → All Level ps → partsOf e ps ≡ pairsOf e (allNear ps) (allFar ps)
-unfolding partsOf allNear allFar pairsOf
-parts-join e [] h = refl
-parts-join e (p ∷ ps) h =
-    let run = pairsOf e (p .near) (p .far) in
-    ap (joined run) (parts-join (run .engine) ps (record { each = h .each .1 })) ∙ sym (cut e (p .near) (allNear ps) (p .far) (allFar ps) (h .each .0 .level))
-
--- Two cuts of one stream agree.
-pub cuts-agree : (e : Engine) (ps qs : List Part) → All Level ps → All Level qs → allNear ps ≡ allNear qs → allFar ps ≡ allFar qs → partsOf e ps ≡ partsOf e qs
-cuts-agree e ps qs hp hq n f =
-    parts-join e ps hp ∙ ap (λ (l : List Float). pairsOf e l (allFar ps)) n ∙ ap (pairsOf e (allNear qs)) f ∙ sym (parts-join e qs hq)
-
 -- ---- rows of calls
 
 -- what a call serves is the run
@@ -75,11 +61,6 @@ served-ran r out = λ i. record { engine = r .engine; samples = take-append-seam
 -- An accepted call leaves, delivers and reports what the run over its pairs does.
 pub call-ran : (e : Engine) (near far out : List Float) → processNumber e near far out ≡ 0 → ranBy (processOf e near far out) ≡ pairsOf e near far
 call-ran e near far out h = ap ranBy (process-ran e near far out h) ∙ served-ran (pairsOf e near far) out
-
--- as many near as far samples, at most 4,096
-pub record Fair (p : Part) : Type 0 where
-  pub level : length (p .near) ≡ length (p .far)
-  pub few : length (p .near) ≤ 4096
 
 -- A row of calls is accepted where its first engine is in order, each part has as many near as far samples, at most 4,096, and each has
 -- room for what it delivers.
@@ -147,14 +128,6 @@ rows-agree e ps qs hp hq n f =
     row-runs e ps hp ∙ k ∙ sym (row-runs e qs hq)
 
 -- ---- a call cut into calls
-
--- no part is longer than the whole
-parts-fair : (ps : List Part) → length (allNear ps) ≤ 4096 → All Level ps → All Fair ps
-unfolding allNear
-parts-fair [] h l = all-none
-parts-fair (p ∷ ps) h l =
-    let k = length-append (p .near) (allNear ps) in
-    all-cons (record { level = l .each .0 .level; few = omega arith }) (parts-fair ps (omega arith) (record { each = l .each .1 }))
 
 -- An accepted call cut anyhow into calls, each with as many near as far samples and with room for what it delivers: they are all
 -- accepted, and what they leave, deliver and last report together is what the uncut call leaves, delivers and reports.

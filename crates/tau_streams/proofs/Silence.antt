@@ -7,15 +7,14 @@
 --                          stream is cut and flushed; after a last flush the delivered samples are near
 --     three-samples        as of near 1.0, -0.0, NaN with far 0.0 three times
 --     refused-aside, singer-among     refused calls among them change nothing
---     pairs-stay, calls-stay     what was delivered stays delivered, whatever follows
---     passage, begun-passage, row-passage     a stream whose first pairs have still far samples: every whole block of these is delivered as
---                          near, whatever the pairs behind them are, and however the stream is cut into accepted calls
+--     passage              pairs of which the first have still far samples: every whole block of these is delivered as near, whatever the
+--                          pairs behind them are
 --     singer-first         the same with flushes among the calls before the first far sound, and any calls whatever behind it
 --     singer-places, singer-flushed, first-places     these with refused calls of any kind among the others, and place by place
 use mathlib.Core.Path.{_≡_, refl, sym, ap, _∙_, subst}
 use mathlib.Core.Bool.{Bool, true, false}
 use mathlib.Core.List.{List, [], _∷_, _++_, append-assoc, append-nil, map-append}
-use Prim.Native.Nat.{ℕ, _+_, _-_, _*_, _%_, _≤_, _<_}
+use Prim.Native.Nat.{ℕ, _+_, _-_, _%_, _≤_, _<_}
 use native.Mathlib.Omega.{arith}
 use native.Mathlib.Numerals.{add-one}
 use borrow.Author.Tests.{eqb-true, eqb-false}
@@ -38,14 +37,14 @@ use Rattle.tau_block.proofs.Silence.{cleared-silent, block-passed}
 use Rattle.tau.specs.Fresh.{freshMic, freshOf}
 use Rattle.tau_frame.specs.Pairs.{Engine, Run, waitsOf, carrying, blockOf, fillOf, pairOf, pairsOf, padded, flushedOf, deliversOf}
 use Rattle.tau.specs.Calls.{begunOf, processOf, flushOf}
-use Rattle.streams.specs.Parts.{Part, allNear, allFar}
+use Rattle.streams.specs.Parts.{Part}
 use Rattle.streams.proofs.Sounds.{minus, still-zero}
 use Rattle.streams.proofs.Places.{alike-at}
-use Rattle.tau_streams.specs.Stream.{begunBy, ranBy, cleanOf, joined, rowOf, AllAccepted, Call, feed, flush, reset}
-use Rattle.tau_streams.specs.Silence.{heldNear, heldFar, Hushed, Begins, created, renewed, Passes, Emptied, Starts, madeBy, refusalBy, callsOf, AllTaken, takenOf, filledBy, givenOf, Gentle}
+use Rattle.tau_streams.specs.Stream.{begunBy, ranBy, cleanOf, joined, Call, feed, flush, reset}
+use Rattle.tau_streams.specs.Silence.{heldNear, heldFar, Hushed, Begins, created, renewed, Passes, Emptied, madeBy, refusalBy, callsOf, AllTaken, takenOf, filledBy, givenOf, Gentle}
 use Rattle.tau.proofs.Accepted.{accepted-state, accepted-settings, accepted-pairs, create-answers, create-began, reset-answers, reset-began, reset-refused, process-answers, process-refused, flush-answers, flush-ran, flush-refused}
 use Rattle.tau_streams.proofs.Counts.{block-delivers, delivers}
-use Rattle.tau_streams.proofs.Cut.{joined-first, cut, served-ran, call-ran, row-runs, row-level}
+use Rattle.tau_streams.proofs.Cut.{joined-first, cut, served-ran, call-ran}
 
 -- ---- small things
 
@@ -434,14 +433,6 @@ singer-among e cs b g =
 
 -- ---- whatever follows
 
--- What pairs have delivered stays delivered, whatever pairs follow,
-pub pairs-stay : (e : Engine) (a b c d : List Float) → length a ≡ length c → Starts (pairsOf e a c .samples) (pairsOf e (a ++ b) (c ++ d) .samples)
-pairs-stay e a b c d l = record { more = pairsOf (pairsOf e a c .engine) b d .samples; is = ap (λ (r : Run). r .samples) (cut e a b c d l) }
-
--- and what calls have, whatever calls follow.
-pub calls-stay : (e : Engine) (cs ds : List Call) → Starts (callsOf e cs .run .samples) (callsOf e (cs ++ ds) .run .samples)
-calls-stay e cs ds = record { more = callsOf (callsOf e cs .run .engine) ds .run .samples; is = calls-samples e cs ds }
-
 -- whole blocks are delivered
 pair-whole : (e : Engine) (x y : Float) → length (pairOf e x y .samples) % 256 ≡ 0
 unfolding pairOf
@@ -478,7 +469,7 @@ passage-split : (e : Engine) (a b c d : List Float) → length a ≡ length c �
 passage-split e a b c d l h n f =
     let k = deliversOf (e .state .carried) (length a) in
     let r = pairsOf e a c in
-    let s = pairs-stay e a b c d l in
+    let more = pairsOf (r .engine) b d .samples in
     let p = pairs-passed e a c l h n f in
     let j = passed-count e a c l h n f in
     let w : heldNear e ++ cleanOf (a ++ b) ≡ r .samples ++ (heldNear (r .engine) ++ cleanOf b) =
@@ -486,7 +477,7 @@ passage-split e a b c d l h n f =
     ∙ sym (append-assoc (heldNear e) (cleanOf a) (cleanOf b))
     ∙ ap (λ (m : List Float). m ++ cleanOf b) (sym (p .passed))
     ∙ append-assoc (r .samples) (heldNear (r .engine)) (cleanOf b) in
-    ap (take k) (s .is) ∙ take-at (r .samples) (s .more) k j ∙ sym (ap (take k) w ∙ take-at (r .samples) (heldNear (r .engine) ++ cleanOf b) k j)
+    ap (λ (t : Run). take k (t .samples)) (cut e a b c d l) ∙ take-at (r .samples) more k j ∙ sym (ap (take k) w ∙ take-at (r .samples) (heldNear (r .engine) ++ cleanOf b) k j)
 
 -- Pairs of which the first n have still far samples, from an engine that has heard no far sound: the blocks that these n fill, with what
 -- waited before them, are delivered as near, whatever the pairs behind them are.
@@ -498,23 +489,7 @@ passage e near far n l k h a c =
     let p = passage-split e (take n near) (drop n near) (take n far) (drop n far) (i ∙ sym j) h a c in
     rw (take-append-drop n near, take-append-drop n far, i) at p
 
--- So from creation or reset on: where the first m blocks of a stream have still far samples, they are delivered as near.
-pub begun-passage : (e : Engine) (near far : List Float) (m : ℕ) → Begins e → length near ≡ length far → 256 * m ≤ length near
-    → All Fits (take (256 * m) near) → All Still (take (256 * m) far) → take (256 * m) (pairsOf e near far .samples) ≡ take (256 * m) (cleanOf near)
-begun-passage e near far m b l k a c =
-    let h = begins-hushed e b in
-    let z = h .1 in
-    let q : deliversOf (e .state .carried) (256 * m) ≡ 256 * m = omega arith in
-    rw (q, held-none e z) at (passage e near far (256 * m) l k (h .0) a c)
-
--- The same of a row of accepted calls, however the stream is cut into them.
-pub row-passage : (e : Engine) (ps : List Part) (m : ℕ) → Begins e → AllAccepted e ps → 256 * m ≤ length (allNear ps)
-    → All Fits (take (256 * m) (allNear ps)) → All Still (take (256 * m) (allFar ps))
-    → take (256 * m) (rowOf e ps .run .samples) ≡ take (256 * m) (cleanOf (allNear ps))
-row-passage e ps m b r k a c =
-    ap (λ (t : Run). take (256 * m) (t .samples)) (row-runs e ps r) ∙ begun-passage e (allNear ps) (allFar ps) m b (row-level e ps r) k a c
-
--- And of any accepted process and flush calls with still far samples, and then an accepted process of which the first n far samples are
+-- So of any accepted process and flush calls with still far samples, and then an accepted process of which the first n far samples are
 -- still, whatever calls follow: every block that these pairs fill is delivered as near, and so is what each flush delivers.
 pub singer-first : (e : Engine) (cs : List Call) (p : Part) (ds : List Call) (n : ℕ) → Begins e → AllTaken e (cs ++ (feed p ∷ [])) → All Gentle cs
     → n ≤ length (p .near) → All Fits (take n (p .near)) → All Still (take n (p .far))

@@ -6,8 +6,7 @@
 --     since-blocks, since-rest     in blocks: the samples since then are those of the whole blocks of the uncut stream, and what a flush runs
 --                          is a block of the rest of it, padded
 --     since-delivers, since-waits     the N pairs since then have delivered the whole blocks of N, and the rest, at most 255, is carried
---     since-flush          a flush then delivers that rest: the samples are those of the flushed run over the uncut stream,
---     since-all            and with it there is a sample for each pair
+--     since-flush          a flush then delivers that rest: the samples are those of the flushed run over the uncut stream
 use mathlib.Core.Path.{_≡_, refl, sym, ap, _∙_, subst}
 use mathlib.Core.Bool.{Bool, false}
 use mathlib.Core.List.{List, [], _∷_, _++_}
@@ -139,11 +138,6 @@ since-flush t out h z =
     let c = flushOf (t .run .engine) out in
     subst (λ (n : ℕ). Delivery (flushedOf (pairsOf (t .start) (t .near) (t .far) .engine)) n out c) (since-waits t h .0)
     (subst (λ (r : Run). Delivery (flushedOf (r .engine)) (t .run .engine .state .carried) out c) (h .run) (flush-delivers (t .run .engine) out z))
-
--- With it there is a sample for each pair.
-pub since-all : (t : Since) (out : List Float) → Uncut t → flushNumber (t .run .engine) out ≡ 0
-    → length (t .run .samples) + flushOf (t .run .engine) out .answer .delivered ≡ length (t .near)
-since-all t out h z = omega (arith, since-delivers t h, since-flush t out h z .count)
 
 -- ---- in blocks
 

@@ -54,11 +54,6 @@ pub record Emptied (e : Engine) (r : Run) : Type 0 where
   pub empty : r .engine .state .carried ≡ 0
   pub samples : r .samples ≡ heldNear e
 
--- l starts with m
-pub record Starts (m l : List Float) : Type 0 where
-  pub more : List Float
-  pub is : l ≡ m ++ more
-
 -- ---- calls of every kind in a row
 
 -- a call on an engine: what it leaves and delivers, and its refusal
