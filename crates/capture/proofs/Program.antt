@@ -17,7 +17,7 @@ use Rattle.tau_frame.specs.Pairs.{Engine, Run, pairsOf, flushedOf}
 use Rattle.tau.specs.Calls.{createRefusal, Called, servedOf, processOf, flushOf}
 use Rattle.tau_streams.specs.Stream.{Good, joined}
 use Rattle.tau.proofs.Accepted.{State, create-answers, settings-accepted, process-accepted, flush-accepted, process-ran, flush-ran}
-use Rattle.tau_streams.proofs.Counts.{created-good, pairs-sound}
+use Rattle.tau_streams.proofs.Counts.{created-good, pairs-intact}
 use Rattle.tau_streams.specs.Silence.{Begins, created}
 use Rattle.tau_streams.proofs.Cut.{cut}
 use Rattle.tau_streams.proofs.Silence.{singer-stream}
@@ -158,7 +158,7 @@ read-reached s r g h at =
     let e = runOf s .engine in
     let held = restIn s ++ r in
     let R = pairsOf e (nearIn held) (farIn held) in
-    let good = pairs-sound startOf (nearIn s) (farIn s) start-good in
+    let good = pairs-intact startOf (nearIn s) (farIn s) start-good in
     let long : length held ≤ 32775 = rw (length-append (restIn s) r) (omega (arith, rest-short s, h)) in
     let same : fedOf (g .engine) (g .rest ++ r) buffer ≡ fedOf e held buffer = λ i. fedOf (at .engine i) (at .rest i ++ r) buffer in
     let ran : Ran R (fedOf (g .engine) (g .rest ++ r) buffer) = subst (Ran R) (sym same) (feed-ran e good buffer long-buffer held long) in
@@ -192,7 +192,7 @@ program rs h =
     let e = runOf s .engine in
     let F = flushedOf e in
     let same : endedOf (g .engine) ≡ endedOf e = ap endedOf (at .engine) in
-    let ran : Ran F (endedOf (g .engine)) = subst (Ran F) (sym same) (end-ran e (pairs-sound startOf (nearIn s) (farIn s) start-good) lastBuffer long-last) in
+    let ran : Ran F (endedOf (g .engine)) = subst (Ran F) (sym same) (end-ran e (pairs-intact startOf (nearIn s) (farIn s) start-good) lastBuffer long-last) in
     ((λ i. at .written i ++ ran .sent i) ∙ sym (bytes-join (runOf s .samples) (F .samples)), all-append (at .taken) (all-cons (ran .taken) all-none))
 
 -- what is read is an f32, whatever the bytes

@@ -21,7 +21,7 @@ use Rattle.rho_taps.specs.Update as rhoUpdate
 use Rattle.tau_steps.specs.Paths.{counted}
 use Rattle.tau_steps.specs.Constants.{oneMore, oneMore32}
 use Rattle.tau_block.proofs.Bounds.{step-factor, target-bounds}
-use Rattle.promises.specs.Clauses.{Narrowing, Extremes, Constants, Rounds, Entries, Reversal, StepFactor, SuppressorTarget, Counters}
+use Rattle.promises.specs.Clauses.{Narrowing, Extremes, Products, Rounds, Entries, Reversal, StepFactor, SuppressorTarget, Counters}
 
 -- ---- numbers
 
@@ -51,8 +51,8 @@ extremes x lo hi = (refl, min-nan x, refl, max-nan x, clamp-nan lo hi)
 
 -- ---- the tables
 
-pub constants : Constants
-constants = (two-pi, half-pi)
+pub products : Products
+products = (two-pi, half-pi)
 
 pub rounds : Rounds
 rounds = (turns-round, angle-even)

@@ -15,7 +15,7 @@ use Rattle.tau_steps.specs.Ranges.{rangedOf}
 use Rattle.tau.specs.Fresh.{emptyOf}
 use Rattle.tau.specs.Calls as tau
 use Rattle.tau.proofs.Accepted as accepted
-use Rattle.promises.specs.Demand1.{Test, firstOf, Holding, Exactly, Transform, ComplexTransform, LentTransform, tauCreate, tauProcess, tauFlush, tauReset, tauUntouched, unbegunOf, tauUnbegun, rhoCreate, rhoProcess, rhoState, rhoUntouched, rhoUnbegun}
+use Rattle.promises.specs.Demand1.{Test, firstOf, Holding, Exactly, TransformRefuses, ComplexRefuses, LentRefuses, TauCreateRefuses, TauProcessRefuses, TauFlushRefuses, TauResetRefuses, TauUntouched, unbegunOf, TauUnbegun, RhoCreateRefuses, RhoProcessRefuses, RhoStateRefuses, RhoUntouched, RhoUnbegun}
 
 -- ---- the table
 
@@ -53,38 +53,38 @@ module _ (b : Bool) (done out : List Float) where
   leaves : (call .answer ≡ 0 → ⊥) → call .out ≡ out
   leaves = pick-if (λ (w : Wrote). (w .answer ≡ 0 → ⊥) → w .out ≡ out) b (λ _ h. absurd (h refl)) (λ _ _. refl)
 
-pub transform : Transform
+pub transform-refuses : TransformRefuses
 unfolding forwardOf inverseOf
-transform x out = (answers _ _ out, answers _ _ out, leaves _ _ out, leaves _ _ out)
+transform-refuses x out = (answers _ _ out, answers _ _ out, leaves _ _ out, leaves _ _ out)
 
-pub complex-transform : ComplexTransform
+pub complex-refuses : ComplexRefuses
 unfolding complexOf
-complex-transform inverse points = (answers _ _ points, leaves _ _ points)
+complex-refuses inverse points = (answers _ _ points, leaves _ _ points)
 
-pub lent-transform : LentTransform
+pub lent-refuses : LentRefuses
 unfolding forwardWithOf inverseWithOf halfWithOf lentOf
-lent-transform t s x out later =
+lent-refuses t s x out later =
     (answers _ _ out, answers _ _ out, answers _ _ out, leaves _ _ out, leaves _ _ out, leaves _ _ out)
 
 -- ---- TauCanceller
 
-pub tau-create : tauCreate
+pub tau-create-refuses : TauCreateRefuses
 unfolding firstOf tau.createRefusal
-tau-create parts flag sh ou xs = accepted.create-answers parts flag sh ou xs
+tau-create-refuses parts flag sh ou xs = accepted.create-answers parts flag sh ou xs
 
-pub tau-process : tauProcess
+pub tau-process-refuses : TauProcessRefuses
 unfolding firstOf tau.processRefusal tau.stateRefusal tau.pairsRefusal
-tau-process e near far out = accepted.process-answers e near far out ∙ two (rangedOf (e .state)) _ _
+tau-process-refuses e near far out = accepted.process-answers e near far out ∙ two (rangedOf (e .state)) _ _
 
-pub tau-flush : tauFlush
+pub tau-flush-refuses : TauFlushRefuses
 unfolding firstOf tau.flushRefusal tau.stateRefusal
-tau-flush e out = accepted.flush-answers e out ∙ two (rangedOf (e .state)) _ _
+tau-flush-refuses e out = accepted.flush-answers e out ∙ two (rangedOf (e .state)) _ _
 
-pub tau-reset : tauReset
+pub tau-reset-refuses : TauResetRefuses
 unfolding firstOf tau.stateRefusal
-tau-reset e = accepted.reset-answers e
+tau-reset-refuses e = accepted.reset-answers e
 
-pub tau-untouched : tauUntouched
+pub tau-untouched : TauUntouched
 tau-untouched e near far out =
     let p = accepted.process-answers e near far out in
     let f = accepted.flush-answers e out in (
@@ -92,7 +92,7 @@ tau-untouched e near far out =
       λ h. accepted.flush-refused e out (λ z. h (f ∙ z)) ∙ ap (λ (n : ℕ). tau.refusedOf n e out) (sym f),
     )
 
-pub tau-unbegun : tauUnbegun
+pub tau-unbegun : TauUnbegun
 tau-unbegun parts flag sh ou xs e =
     let c = accepted.create-answers parts flag sh ou xs in
     let r = accepted.reset-answers e in (
@@ -102,24 +102,24 @@ tau-unbegun parts flag sh ou xs e =
 
 -- ---- RhoCanceller
 
-pub rho-create : rhoCreate
+pub rho-create-refuses : RhoCreateRefuses
 unfolding firstOf rho.createRefusal
-rho-create rate tail w h = rhoCounts.create-answers rate tail w h
+rho-create-refuses rate tail w h = rhoCounts.create-answers rate tail w h
 
-pub rho-process : rhoProcess
+pub rho-process-refuses : RhoProcessRefuses
 unfolding firstOf rho.processRefusal rho.stateRefusal rho.pairsRefusal
-rho-process e near far out = rhoCounts.process-answers e near far out ∙ two (rho.rangedOf (e .state)) _ _
+rho-process-refuses e near far out = rhoCounts.process-answers e near far out ∙ two (rho.rangedOf (e .state)) _ _
 
-pub rho-state : rhoState
+pub rho-state-refuses : RhoStateRefuses
 unfolding firstOf rho.stateRefusal
-rho-state e = (rhoCounts.flush-answers e, rhoCounts.reset-answers e)
+rho-state-refuses e = (rhoCounts.flush-answers e, rhoCounts.reset-answers e)
 
-pub rho-untouched : rhoUntouched
+pub rho-untouched : RhoUntouched
 rho-untouched e near far out =
     let p = rhoCounts.process-answers e near far out in
     (λ h. rhoCounts.process-refused e near far out (λ z. h (p ∙ z)) ∙ ap (λ (n : ℕ). rho.untouchedOf n e out) (sym p), rhoCounts.flush-untouched e ∙ ap (λ (n : ℕ). rho.untouchedOf n e []) (sym (rhoCounts.flush-answers e)))
 
-pub rho-unbegun : rhoUnbegun
+pub rho-unbegun : RhoUnbegun
 rho-unbegun rate tail w h e =
     let c = rhoCounts.create-answers rate tail w h in
     let r = rhoCounts.reset-answers e in (

@@ -14,16 +14,16 @@ use Rattle.tau.specs.Calls as tau
 use Rattle.tau.proofs.Accepted as accepted
 use Rattle.tau_streams.proofs.Counts as tauCounts
 use Rattle.tau_streams.proofs.Outcomes.{process-reports, flush-reports, process-none, process-some, flush-none, flush-some, process-leak, flush-leak}
-use Rattle.promises.specs.Demand2.{Transform, ComplexTransform, LentTransform, TauBegins, RhoBegins, TauRuns, RhoRuns, TauWrites, RhoWrites, TauIdle, TauReports, RhoReports, Leaks, Transfers, Resets, Clears}
+use Rattle.promises.specs.Demand2.{TransformRuns, ComplexRuns, LentRuns, TauBegins, RhoBegins, TauRuns, RhoRuns, TauWrites, RhoWrites, TauIdle, TauReports, RhoReports, Leaks, Transfers, Resets, StepsClear}
 
-pub transform : Transform
-transform x s out h k = (forward-served x out h, inverse-served s out k)
+pub transform-runs : TransformRuns
+transform-runs x s out h k = (forward-served x out h, inverse-served s out k)
 
-pub complex-transform : ComplexTransform
-complex-transform = complex-served
+pub complex-runs : ComplexRuns
+complex-runs = complex-served
 
-pub lent-transform : LentTransform
-lent-transform t scratch x s out later a b h k =
+pub lent-runs : LentRuns
+lent-runs t scratch x s out later a b h k =
     (forward-with-served t scratch a b x out h, inverse-with-served t scratch a b s out k, half-with-served t scratch a b s later out k)
 
 -- ---- accepted calls
@@ -92,5 +92,5 @@ resets s near far n adapt sh ou xs =
     let e = ran-resets s near far n adapt sh ou xs in
     (e, λ h. e ∙ more-held (howMany (clearsOf s near far n adapt sh ou xs)) (s .mic .«divergence_resets») h)
 
-pub clears : Clears
-clears = (shadow-clears, output-clears, update-clears, guard-clears)
+pub steps-clear : StepsClear
+steps-clear = (shadow-clears, output-clears, update-clears, guard-clears)

@@ -18,7 +18,7 @@ use Rattle.tau_frame.specs.Pairs.{Engine}
 use Rattle.tau.specs.Calls as tau
 use Rattle.tau.proofs.Accepted as accepted
 use Rattle.tau_streams.specs.Stream.{Good, Since, Uncut}
-use Rattle.tau_streams.proofs.Counts.{sound-accepted}
+use Rattle.tau_streams.proofs.Counts.{intact-accepted}
 use Rattle.tau_streams.proofs.Cut.{rows-agree, cut-call}
 use Rattle.tau_streams.proofs.Since.{now-good, created-calls, reset-calls, since-delivers, since-waits, since-flush, since-blocks, since-rest}
 use Rattle.tau_streams.proofs.Silence.{singer-places, singer-flushed, first-places, three-samples}
@@ -40,7 +40,7 @@ tau-tests e =
 
 tau-ready : (e : Engine) → Good e → TauReady e
 tau-ready e g =
-    let z = sound-accepted e g in
+    let z = intact-accepted e g in
     let t = tau-tests e z in
     let s = accepted.accepted-state (e .state) (length (e .shadow)) (length (e .output)) (length (e .spectra)) z in
     record {

@@ -41,8 +41,8 @@ Extremes = (x lo hi : Float)
 -- ---- the tables
 
 -- TWO_PI and HALF_PI, whose bits stand in the code, are the Rust's products of PI
-abbrev pub Constants : Type 0
-Constants = (twoPi ≡ whole 2 ⊗ pi) × (halfPi ≡ half ⊗ pi)
+abbrev pub Products : Type 0
+Products = (twoPi ≡ whole 2 ⊗ pi) × (halfPi ≡ half ⊗ pi)
 
 -- "For our angles, `(x / TWO_PI).round()` is -1 where the ratio is -0.5 and -0.0 otherwise": this rule, `turns`, is Rust's round at each of
 -- the 257 angles, and the 128 angles of the twiddles are among them

@@ -45,16 +45,16 @@ Exactly =
 
 -- ---- the real transform: "(512 samples, 514 spectrum numbers) only 2", with nothing written
 
-abbrev pub Transform : Type 0
-Transform = (x out : List Float)
+abbrev pub TransformRefuses : Type 0
+TransformRefuses = (x out : List Float)
     → (forwardOf x out .answer ≡ firstOf (test (eqb (length x) 512 && eqb (length out) 514) 2 ∷ []))
     × (inverseOf x out .answer ≡ firstOf (test (eqb (length x) 514 && eqb (length out) 512) 2 ∷ []))
     × ((forwardOf x out .answer ≡ 0 → ⊥) → forwardOf x out .out ≡ out)
     × ((inverseOf x out .answer ≡ 0 → ⊥) → inverseOf x out .out ≡ out)
 
 -- the transform of 256 points, 512 numbers in place, likewise
-abbrev pub ComplexTransform : Type 0
-ComplexTransform = (inverse : Bool) (points : List Float)
+abbrev pub ComplexRefuses : Type 0
+ComplexRefuses = (inverse : Bool) (points : List Float)
     → (complexOf inverse points .answer ≡ firstOf (test (eqb (length points) 512) 2 ∷ []))
     × ((complexOf inverse points .answer ≡ 0 → ⊥) → complexOf inverse points .out ≡ points)
 
@@ -62,8 +62,8 @@ ComplexTransform = (inverse : Bool) (points : List Float)
 abbrev pub lent : List Float → List Float → Bool
 lent table scratch = eqb (length table) 514 && eqb (length scratch) 1024
 
-abbrev pub LentTransform : Type 0
-LentTransform = (t s x out : List Float) (later : Bool)
+abbrev pub LentRefuses : Type 0
+LentRefuses = (t s x out : List Float) (later : Bool)
     → (forwardWithOf t s x out .answer ≡ firstOf (test (lent t s && (eqb (length x) 512 && eqb (length out) 514)) 2 ∷ []))
     × (inverseWithOf t s x out .answer ≡ firstOf (test (lent t s && (eqb (length x) 514 && eqb (length out) 512)) 2 ∷ []))
     × (halfWithOf t s x later out .answer ≡ firstOf (test (lent t s && (eqb (length x) 514 && eqb (length out) 256)) 2 ∷ []))
@@ -77,13 +77,13 @@ abbrev pub tauSized : ℕ → List Float → List Float → List Float → Bool
 tauSized parts sh ou xs = tau.sizedOf parts (length sh) (length ou) (length xs)
 
 -- creation 1, 2
-abbrev pub tauCreate : Type 0
-tauCreate = (parts : ℕ) (flag : Bool) (sh ou xs : List Float)
+abbrev pub TauCreateRefuses : Type 0
+TauCreateRefuses = (parts : ℕ) (flag : Bool) (sh ou xs : List Float)
     → tau.createOf parts flag sh ou xs .answer .refusal ≡ firstOf (test (tau.settingsOf parts) 1 ∷ test (tauSized parts sh ou xs) 2 ∷ [])
 
 -- process 6, 2, 3, 4, 5
-abbrev pub tauProcess : Type 0
-tauProcess = (e : Engine) (near far out : List Float)
+abbrev pub TauProcessRefuses : Type 0
+TauProcessRefuses = (e : Engine) (near far out : List Float)
     → tau.processOf e near far out .answer .refusal ≡ firstOf (
     test (rangedOf (e .state)) 6
     ∷ test (tauSized (e .state .partitions) (e .shadow) (e .output) (e .spectra)) 2
@@ -93,8 +93,8 @@ tauProcess = (e : Engine) (near far out : List Float)
     ∷ [])
 
 -- flush 6, 2, 5
-abbrev pub tauFlush : Type 0
-tauFlush = (e : Engine) (out : List Float)
+abbrev pub TauFlushRefuses : Type 0
+TauFlushRefuses = (e : Engine) (out : List Float)
     → tau.flushOf e out .answer .refusal ≡ firstOf (
     test (rangedOf (e .state)) 6
     ∷ test (tauSized (e .state .partitions) (e .shadow) (e .output) (e .spectra)) 2
@@ -102,14 +102,14 @@ tauFlush = (e : Engine) (out : List Float)
     ∷ [])
 
 -- reset 6, 2
-abbrev pub tauReset : Type 0
-tauReset = (e : Engine)
+abbrev pub TauResetRefuses : Type 0
+TauResetRefuses = (e : Engine)
     → tau.resetOf e .answer .refusal ≡ firstOf (
     test (rangedOf (e .state)) 6 ∷ test (tauSized (e .state .partitions) (e .shadow) (e .output) (e .spectra)) 2 ∷ [])
 
 -- "returns its number, zero delivered and the state as given, and writes nothing": a refused call is one that hands all back
-abbrev pub tauUntouched : Type 0
-tauUntouched = (e : Engine) (near far out : List Float)
+abbrev pub TauUntouched : Type 0
+TauUntouched = (e : Engine) (near far out : List Float)
     → ((tau.processOf e near far out .answer .refusal ≡ 0 → ⊥) → tau.processOf e near far out ≡ tau.refusedOf (tau.processOf e near far out .answer .refusal) e out)
     × ((tau.flushOf e out .answer .refusal ≡ 0 → ⊥) → tau.flushOf e out ≡ tau.refusedOf (tau.flushOf e out .answer .refusal) e out)
 
@@ -117,8 +117,8 @@ tauUntouched = (e : Engine) (near far out : List Float)
 abbrev pub unbegunOf : ℕ → TauCanceller → List Float → List Float → List Float → tau.Begun
 unbegunOf refusal s sh ou xs = record { answer = record { refusal = refusal; state = s }; shadow = sh; output = ou; spectra = xs }
 
-abbrev pub tauUnbegun : Type 0
-tauUnbegun = (parts : ℕ) (flag : Bool) (sh ou xs : List Float) (e : Engine)
+abbrev pub TauUnbegun : Type 0
+TauUnbegun = (parts : ℕ) (flag : Bool) (sh ou xs : List Float) (e : Engine)
     → ((tau.createOf parts flag sh ou xs .answer .refusal ≡ 0 → ⊥)
     → tau.createOf parts flag sh ou xs ≡ unbegunOf (tau.createOf parts flag sh ou xs .answer .refusal) emptyOf sh ou xs)
     × ((tau.resetOf e .answer .refusal ≡ 0 → ⊥)
@@ -130,13 +130,13 @@ abbrev pub rhoSized : ℕ → List Float → List Float → Bool
 rhoSized taps w h = rho.sizedOf taps (length w) (length h)
 
 -- creation 1, 2
-abbrev pub rhoCreate : Type 0
-rhoCreate = (rate tail : ℕ) (w h : List Float)
+abbrev pub RhoCreateRefuses : Type 0
+RhoCreateRefuses = (rate tail : ℕ) (w h : List Float)
     → rho.createOf rate tail w h .answer .refusal ≡ firstOf (test (rho.settingsOf rate tail) 1 ∷ test (rhoSized (rhoStates.tapsOf rate tail) w h) 2 ∷ [])
 
 -- process 6, 2, 3, 4, 5
-abbrev pub rhoProcess : Type 0
-rhoProcess = (e : sample.Engine) (near far out : List Float)
+abbrev pub RhoProcessRefuses : Type 0
+RhoProcessRefuses = (e : sample.Engine) (near far out : List Float)
     → rho.processOf e near far out .answer .refusal ≡ firstOf (
     test (rho.rangedOf (e .state)) 6
     ∷ test (rhoSized (e .state .taps) (e .weights) (e .history)) 2
@@ -146,21 +146,21 @@ rhoProcess = (e : sample.Engine) (near far out : List Float)
     ∷ [])
 
 -- flush 6, 2 (it delivers nothing, so 5 never applies); reset 6, 2
-abbrev pub rhoState : Type 0
-rhoState = (e : sample.Engine)
+abbrev pub RhoStateRefuses : Type 0
+RhoStateRefuses = (e : sample.Engine)
     → (rho.flushOf e .answer .refusal ≡ firstOf (test (rho.rangedOf (e .state)) 6 ∷ test (rhoSized (e .state .taps) (e .weights) (e .history)) 2 ∷ []))
     × (rho.resetOf e .answer .refusal ≡ firstOf (test (rho.rangedOf (e .state)) 6 ∷ test (rhoSized (e .state .taps) (e .weights) (e .history)) 2 ∷ []))
 
 -- a refused process hands all back, and a flush, accepted or not
-abbrev pub rhoUntouched : Type 0
-rhoUntouched = (e : sample.Engine) (near far out : List Float)
+abbrev pub RhoUntouched : Type 0
+RhoUntouched = (e : sample.Engine) (near far out : List Float)
     → ((rho.processOf e near far out .answer .refusal ≡ 0 → ⊥)
     → rho.processOf e near far out ≡ rho.untouchedOf (rho.processOf e near far out .answer .refusal) e out)
     × (rho.flushOf e ≡ rho.untouchedOf (rho.flushOf e .answer .refusal) e [])
 
 -- and so do a refused creation, whose state is all zero, and a refused reset
-abbrev pub rhoUnbegun : Type 0
-rhoUnbegun = (rate tail : ℕ) (w h : List Float) (e : sample.Engine)
+abbrev pub RhoUnbegun : Type 0
+RhoUnbegun = (rate tail : ℕ) (w h : List Float) (e : sample.Engine)
     → ((rho.createOf rate tail w h .answer .refusal ≡ 0 → ⊥)
     → rho.createOf rate tail w h
     ≡ record { answer = record { refusal = rho.createOf rate tail w h .answer .refusal; state = rhoStates.emptyOf }; weights = w; history = h })

@@ -31,18 +31,18 @@ use Rattle.tau.specs.Calls as tau
 use Rattle.tau_streams.specs.Stream as tauStream
 
 -- the transform, where the lengths are right
-abbrev pub Transform : Type 0
-Transform = (x s out : List Float) → length x ≡ 512 → length s ≡ 514
+abbrev pub TransformRuns : Type 0
+TransformRuns = (x s out : List Float) → length x ≡ 512 → length s ≡ 514
     → (length out ≡ 514 → forwardOf x out ≡ record { answer = 0; out = spectrumOf x })
     × (length out ≡ 512 → inverseOf s out ≡ record { answer = 0; out = samplesOf s })
 
 -- the transform of 256 points, and the forms over a lent table t and a lent scratch
-abbrev pub ComplexTransform : Type 0
-ComplexTransform = (inverse : Bool) (points : List Float) → length points ≡ 512
+abbrev pub ComplexRuns : Type 0
+ComplexRuns = (inverse : Bool) (points : List Float) → length points ≡ 512
     → complexOf inverse points ≡ record { answer = 0; out = runOf recombination reversalTable inverse points }
 
-abbrev pub LentTransform : Type 0
-LentTransform = (t scratch x s out : List Float) (later : Bool) → length t ≡ 514 → length scratch ≡ 1024 → length x ≡ 512 → length s ≡ 514
+abbrev pub LentRuns : Type 0
+LentRuns = (t scratch x s out : List Float) (later : Bool) → length t ≡ 514 → length scratch ≡ 1024 → length x ≡ 512 → length s ≡ 514
     → (length out ≡ 514 → forwardWithOf t scratch x out ≡ record { answer = 0; out = spectrumWith t reversalTable x })
     × (length out ≡ 512 → inverseWithOf t scratch s out ≡ record { answer = 0; out = samplesWith t reversalTable s })
     × (length out ≡ 256 → halfWithOf t scratch s later out ≡ record { answer = 0; out = halfOfSamples later (samplesWith t reversalTable s) })
@@ -143,9 +143,9 @@ abbrev pub Resets : Type 0
 Resets = (s : TauCanceller) (near far : List Float) (n : ℕ) (adapt : Bool) (sh ou xs : List Float)
     → let before = s .mic .«divergence_resets» in
     let after = runBlock s near far n adapt sh ou xs .answer .state .mic .«divergence_resets» in
-    let clears = howMany (clearsOf s near far n adapt sh ou xs) in
-    (after ≡ moreBy clears before) × (before ≤ 2 ^ 64 - 1 → after ≡ min (before + clears) (2 ^ 64 - 1))
+    let steps-clear = howMany (clearsOf s near far n adapt sh ou xs) in
+    (after ≡ moreBy steps-clear before) × (before ≤ 2 ^ 64 - 1 → after ≡ min (before + steps-clear) (2 ^ 64 - 1))
 
 -- and what is counted are clears: at each of the four places in a block the test that is counted says whether the step does its clear
-abbrev pub Clears : Type 0
-Clears = ShadowClears × OutputClears × UpdateClears × GuardClears
+abbrev pub StepsClear : Type 0
+StepsClear = ShadowClears × OutputClears × UpdateClears × GuardClears

@@ -21,7 +21,7 @@ use Rattle.tau_frame.specs.Pairs.{Engine, Run, waitsOf, blockOf, fillOf, pairOf
 use Rattle.tau_block.specs.Block.{runBlock}
 use Rattle.tau_steps.specs.Constants.{zero32}
 use Rattle.tau_streams.specs.Stream.{Good, joined, cleanOf, withCarry, withCarryAfter, blockOn, blocksOf, writtenTo, carryOf, byBlocks}
-use Rattle.tau_streams.proofs.Counts.{pairs-sound}
+use Rattle.tau_streams.proofs.Counts.{pairs-intact}
 use Rattle.tau_streams.proofs.Cut.{joined-first, joined-last, cut}
 
 -- ---- a list stored over a part of another
@@ -209,7 +209,7 @@ blocks-then (suc k) m e near far g z l q b =
     let w = whole-block e a c g z n f in
     let r = blockOn e a c in
     let d = withCarryAfter r (cleanOf a) (cleanOf c) 0 in
-    let g2 : Good (d .engine) = subst (λ (q : Run). Good (q .engine)) w (pairs-sound e a c g) in
+    let g2 : Good (d .engine) = subst (λ (q : Run). Good (q .engine)) w (pairs-intact e a c g) in
     let ln = length-drop 256 near in
     let lf = length-drop 256 far in
     let rest = blocks-then k m (d .engine) dn df g2 refl (omega arith) (omega arith) b in

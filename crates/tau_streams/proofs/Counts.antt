@@ -1,7 +1,7 @@
 -- What pairs and a flush keep of an engine, how many samples they deliver, and where a call puts them. Assumes nothing.
---     pair-sound, pairs-sound, flushed-sound     a pair, a run and a flush keep an engine in order
+--     pair-intact, pairs-intact, flushed-intact     a pair, a run and a flush keep an engine in order
 --     created-good, created-empty, reset-good, reset-empty     creation and reset leave an engine in order, and nothing carried
---     state-sound, sound-accepted     an engine with an accepted state is in order, and one in order has an accepted state
+--     state-intact, intact-accepted     an engine with an accepted state is in order, and one in order has an accepted state
 --     delivers, carries    N pairs over c carried ones deliver the whole blocks of c + N, and carry the rest
 --     flushed-delivers, flushed-empties, flushed-waits     a flush delivers what is carried and carries nothing; with nothing carried it does nothing
 --     process-delivers, flush-delivers     an accepted call answers 0 and delivers that many; they are the first places of its output
@@ -26,7 +26,7 @@ use Rattle.tau_block.proofs.Kept.{ranges-kept, lengths-kept, length-block}
 use Rattle.tau.specs.Fresh.{freshMic, freshOf}
 use Rattle.tau_frame.specs.Pairs.{Engine, Run, waitsOf, carrying, blockOf, fillOf, pairOf, pairsOf, flushedOf, deliversOf}
 use Rattle.tau.specs.Calls.{createRefusal, begunOf, createOf, resetOf, refusedOf, servedOf, processOf, flushOf}
-use Rattle.tau_streams.specs.Stream.{Sound, Good, begunBy, withCarry, Delivery}
+use Rattle.tau_streams.specs.Stream.{Intact, Good, begunBy, withCarry, Delivery}
 use Rattle.tau.specs.Calls.{stateNumber, processNumber, flushNumber}
 use Rattle.tau.proofs.Accepted.{accepted-state, state-accepted, accepted-pairs, accepted-flush, accepted-settings, create-began, reset-began, process-ran, flush-ran}
 
@@ -41,8 +41,8 @@ carry-ranged : (s : TauCanceller) (ns fs : List Float) (c : ℕ) → c ≤ 255 �
 carry-ranged s ns fs c k h =
     record { some = h .some; most = h .most; inring = h .inring; waiting = k; streak = h .streak; count = h .count }
 
-carry-sound : {n f : ℕ} (e : Engine) (ns fs : List Float) (c : ℕ) → c ≤ 255 → length ns ≡ n → length fs ≡ f → Sound n f e → Sound n f (withCarry e ns fs c)
-carry-sound e ns fs c k a b h =
+carry-intact : {n f : ℕ} (e : Engine) (ns fs : List Float) (c : ℕ) → c ≤ 255 → length ns ≡ n → length fs ≡ f → Intact n f e → Intact n f (withCarry e ns fs c)
+carry-intact e ns fs c k a b h =
     record {
       ranged = carry-ranged (e .state) ns fs c k (h .ranged);
       shadow = h .shadow;
@@ -76,9 +76,9 @@ module _ (e : Engine) (near far : List Float) (n : ℕ) (adapt : Bool) where
   unfolding blockOf
   block-ranged h = ranges-kept (emptied e .state) near far n adapt (e .shadow) (e .output) (e .spectra) h
 
-  block-sound : {k l : ℕ} → Sound k l (emptied e) → Sound k l (blockOf e near far n adapt .engine)
+  block-intact : {k l : ℕ} → Intact k l (emptied e) → Intact k l (blockOf e near far n adapt .engine)
   unfolding blockOf
-  block-sound h =
+  block-intact h =
       let s = emptied e .state in
       let z = lengths-kept s near far n adapt (e .shadow) (e .output) (e .spectra) (h .ranged .inring)
       (record { shadow = h .shadow; output = h .output; spectra = h .spectra }) in
@@ -102,32 +102,32 @@ module _ (e : Engine) (near far : List Float) (n : ℕ) (adapt : Bool) where
 -- ---- what is kept
 
 -- the carry after a pair, c pairs in it
-fill-sound : {n f : ℕ} (e : Engine) (x y : Float) (c : ℕ) → c ≤ 255 → Sound n f e
-    → Sound n f (withCarry e (fillOf e x y .state .«near_carry») (fillOf e x y .state .«far_carry») c)
-fill-sound e x y c k h =
-    carry-sound e _ _ c k (length-set (e .state .«near_carry») _ _ ∙ h .near) (length-set (e .state .«far_carry») _ _ ∙ h .far) h
+fill-intact : {n f : ℕ} (e : Engine) (x y : Float) (c : ℕ) → c ≤ 255 → Intact n f e
+    → Intact n f (withCarry e (fillOf e x y .state .«near_carry») (fillOf e x y .state .«far_carry») c)
+fill-intact e x y c k h =
+    carry-intact e _ _ c k (length-set (e .state .«near_carry») _ _ ∙ h .near) (length-set (e .state .«far_carry») _ _ ∙ h .far) h
 
 -- A pair keeps an engine in order,
-pub pair-sound : {n f : ℕ} (e : Engine) (x y : Float) → Sound n f e → Sound n f (pairOf e x y .engine)
+pub pair-intact : {n f : ℕ} (e : Engine) (x y : Float) → Intact n f e → Intact n f (pairOf e x y .engine)
 unfolding pairOf
-pair-sound {n} {f} e x y h =
-    pick-if (λ (r : Run). Sound n f (r .engine)) (eqb (e .state .carried) 255)
-    (λ _. block-sound (fillOf e x y) _ _ 256 true (fill-sound e x y 0 (omega arith) h))
-    (λ t. let d = eqb-false (e .state .carried) 255 t in fill-sound e x y (e .state .carried + 1) (omega (arith, h .ranged .waiting, d)) h)
+pair-intact {n} {f} e x y h =
+    pick-if (λ (r : Run). Intact n f (r .engine)) (eqb (e .state .carried) 255)
+    (λ _. block-intact (fillOf e x y) _ _ 256 true (fill-intact e x y 0 (omega arith) h))
+    (λ t. let d = eqb-false (e .state .carried) 255 t in fill-intact e x y (e .state .carried + 1) (omega (arith, h .ranged .waiting, d)) h)
 
 -- so does a run,
-pub pairs-sound : {n f : ℕ} (e : Engine) (near far : List Float) → Sound n f e → Sound n f (pairsOf e near far .engine)
+pub pairs-intact : {n f : ℕ} (e : Engine) (near far : List Float) → Intact n f e → Intact n f (pairsOf e near far .engine)
 unfolding pairsOf
-pairs-sound e [] far h = h
-pairs-sound e (x ∷ near) [] h = h
-pairs-sound e (x ∷ near) (y ∷ far) h = pairs-sound (pairOf e x y .engine) near far (pair-sound e x y h)
+pairs-intact e [] far h = h
+pairs-intact e (x ∷ near) [] h = h
+pairs-intact e (x ∷ near) (y ∷ far) h = pairs-intact (pairOf e x y .engine) near far (pair-intact e x y h)
 
 -- and so does a flush.
-pub flushed-sound : {n f : ℕ} (e : Engine) → Sound n f e → Sound n f (flushedOf e .engine)
+pub flushed-intact : {n f : ℕ} (e : Engine) → Intact n f e → Intact n f (flushedOf e .engine)
 unfolding flushedOf
-flushed-sound {n} {f} e h =
-    pick-if (λ (r : Run). Sound n f (r .engine)) (eqb (e .state .carried) 0) (λ _. h)
-    (λ _. block-sound e _ _ (e .state .carried) false (carry-sound e _ _ 0 (omega arith) (h .near) (h .far) h))
+flushed-intact {n} {f} e h =
+    pick-if (λ (r : Run). Intact n f (r .engine)) (eqb (e .state .carried) 0) (λ _. h)
+    (λ _. block-intact e _ _ (e .state .carried) false (carry-intact e _ _ 0 (omega arith) (h .near) (h .far) h))
 
 -- ---- creation and reset
 
@@ -169,8 +169,8 @@ pub reset-empty : (e : Engine) → stateNumber e ≡ 0 → resetOf e .answer .st
 reset-empty e h = let s = e .state in rw (reset-began e h) (begun-empty (s .partitions) (s .suppress) (s .mic .transfers) (s .mic .«divergence_resets»))
 
 -- An engine whose state is accepted is in order, with the carries that it has,
-pub state-sound : (e : Engine) → stateNumber e ≡ 0 → Sound (length (e .state .«near_carry»)) (length (e .state .«far_carry»)) e
-state-sound e h =
+pub state-intact : (e : Engine) → stateNumber e ≡ 0 → Intact (length (e .state .«near_carry»)) (length (e .state .«far_carry»)) e
+state-intact e h =
     let a = accepted-state (e .state) (length (e .shadow)) (length (e .output)) (length (e .spectra)) h in
     record {
       ranged = a .ranged;
@@ -182,8 +182,8 @@ state-sound e h =
     }
 
 -- and one in order is accepted.
-pub sound-accepted : {n f : ℕ} (e : Engine) → Sound n f e → stateNumber e ≡ 0
-sound-accepted e h =
+pub intact-accepted : {n f : ℕ} (e : Engine) → Intact n f e → stateNumber e ≡ 0
+intact-accepted e h =
     state-accepted (e .state) (length (e .shadow)) (length (e .output)) (length (e .spectra))
     (record { ranged = h .ranged; sizes = record { shadow = h .shadow; output = h .output; spectra = h .spectra } })
 

@@ -21,11 +21,11 @@ use Rattle.tau_frame.specs.Pairs.{Engine, Run, waitsOf, pairOf, lastOf, pairsOf
 use Rattle.tau.specs.Calls.{Called, servedOf, processOf}
 use Rattle.streams.specs.Parts.{Part, Level, Fair, allNear, allFar}
 use Rattle.streams.proofs.Parts.{parts-fair}
-use Rattle.tau_streams.specs.Stream.{Sound, leftBy, ranBy, Roomy, joined, thenOf, rowOf, AllAccepted}
+use Rattle.tau_streams.specs.Stream.{Intact, leftBy, ranBy, Roomy, joined, thenOf, rowOf, AllAccepted}
 use Rattle.tau.specs.Calls.{processNumber}
 use Rattle.tau_frame.proofs.Later.{last-first, last-assoc}
 use Rattle.tau.proofs.Accepted.{Process, state-accepted, accepted-pairs, process-accepted, process-answers, process-ran}
-use Rattle.tau_streams.proofs.Counts.{pairs-sound, state-sound, delivers, carries}
+use Rattle.tau_streams.proofs.Counts.{pairs-intact, state-intact, delivers, carries}
 
 -- ---- over the pairs
 
@@ -64,7 +64,7 @@ call-ran e near far out h = ap ranBy (process-ran e near far out h) ∙ served-r
 
 -- A row of calls is accepted where its first engine is in order, each part has as many near as far samples, at most 4,096, and each has
 -- room for what it delivers.
-pub row-accepted : {n f : ℕ} (e : Engine) (ps : List Part) → Sound n f e → All Fair ps → Roomy (e .state .carried) ps → AllAccepted e ps
+pub row-accepted : {n f : ℕ} (e : Engine) (ps : List Part) → Intact n f e → All Fair ps → Roomy (e .state .carried) ps → AllAccepted e ps
 unfolding rowOf
 row-accepted e [] s h r = all-none
 row-accepted {n} {f} e (p ∷ ps) s h r =
@@ -78,7 +78,7 @@ row-accepted {n} {f} e (p ∷ ps) s h r =
     }) in
     let c = carries e (p .near) (p .far) (s .ranged) (a .level) in
     let t : Roomy (run .engine .state .carried) ps = subst (λ (k : ℕ). Roomy k ps) (sym c) (record { rooms = r .rooms .1 }) in
-    let rest = row-accepted (run .engine) ps (pairs-sound e (p .near) (p .far) s) (record { each = h .each .1 }) t in
+    let rest = row-accepted (run .engine) ps (pairs-intact e (p .near) (p .far) s) (record { each = h .each .1 }) t in
     all-cons (process-answers e (p .near) (p .far) (p .out) ∙ z) (subst (λ (r : Run). AllAccepted (r .engine) ps) (sym (call-ran e (p .near) (p .far) (p .out) z)) rest)
 
 -- what the first call of an accepted row could count on
@@ -140,6 +140,6 @@ pub cut-call : (e : Engine) (ps : List Part) (out : List Float) → All Level ps
 cut-call e ps out l r h =
     let z = sym (process-answers e (allNear ps) (allFar ps) out) ∙ h in
     let a = accepted-pairs (e .state) (length (e .shadow)) (length (e .output)) (length (e .spectra)) _ _ _ z in
-    let s = state-sound e (state-accepted (e .state) _ _ _ (a .state)) in
+    let s = state-intact e (state-accepted (e .state) _ _ _ (a .state)) in
     let t = row-accepted e ps s (parts-fair ps (a .pairs .few) l) r in
     record { accepted = t; run = row-runs e ps t ∙ sym (call-ran e (allNear ps) (allFar ps) out z) }

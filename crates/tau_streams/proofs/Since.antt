@@ -25,7 +25,7 @@ use Rattle.streams.specs.Parts.{Part}
 use Rattle.tau_streams.specs.Stream.{Good, begunBy, leftBy, ranBy, Delivery, joined, cleanOf, blocksOf, byBlocks, paddedRest, Call, feed, flush, reset, Since, anew, onward, afterCall, afterCalls, Uncut}
 use Rattle.tau.specs.Calls.{stateNumber, processNumber, flushNumber}
 use Rattle.tau.proofs.Accepted.{accepted-pairs, process-answers, process-refused, flush-answers, flush-ran, flush-refused, reset-answers, reset-refused}
-use Rattle.tau_streams.proofs.Counts.{pairs-sound, flushed-sound, created-good, created-empty, reset-good, reset-empty, delivers, carries, flushed-empties, flush-delivers}
+use Rattle.tau_streams.proofs.Counts.{pairs-intact, flushed-intact, created-good, created-empty, reset-good, reset-empty, delivers, carries, flushed-empties, flush-delivers}
 use Rattle.tau_streams.proofs.Cut.{joined-last, cut, call-ran}
 use Rattle.tau_streams.proofs.Blocks.{stream-blocks, rest-flushed}
 
@@ -49,7 +49,7 @@ refused-uncut t r q h =
 
 -- The engine now is in order, so its state is accepted.
 pub now-good : (t : Since) → Uncut t → Good (t .run .engine)
-now-good t h = subst (λ (r : Run). Good (r .engine)) (sym (h .run)) (pairs-sound (t .start) (t .near) (t .far) (h .good))
+now-good t h = subst (λ (r : Run). Good (r .engine)) (sym (h .run)) (pairs-intact (t .start) (t .near) (t .far) (h .good))
 
 -- an accepted process joins its pairs to those before
 process-uncut : (t : Since) (p : Part) → processNumber (t .run .engine) (p .near) (p .far) (p .out) ≡ 0 → Uncut t
@@ -72,7 +72,7 @@ flushed-uncut : (t : Since) (out : List Float) → flushNumber (t .run .engine) 
 flushed-uncut t out z h =
     let e = t .run .engine in
     subst (λ (d : Engine). Uncut (anew d)) (sym (ap leftBy (flush-ran e out z)))
-    (begun-uncut (flushedOf e .engine) (flushed-sound e (now-good t h)) (flushed-empties e))
+    (begun-uncut (flushedOf e .engine) (flushed-intact e (now-good t h)) (flushed-empties e))
 
 -- After each call all is as one run over the uncut stream, since the last creation, reset or flush, makes it.
 pub call-uncut : (t : Since) (c : Call) → Uncut t → Uncut (afterCall t c)

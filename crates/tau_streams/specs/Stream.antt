@@ -19,7 +19,7 @@ use Rattle.tau.specs.Calls.{Begun, Called, resetOf, processOf, flushOf}
 -- ---- engines
 
 -- an engine in order, with carries of n and of f numbers: its state in the ranges of refusal 6, its buffers of the lengths of refusal 2
-pub record Sound (n f : ℕ) (e : Engine) : Type 0 where
+pub record Intact (n f : ℕ) (e : Engine) : Type 0 where
   pub ranged : Ranged (e .state)
   pub shadow : length (e .shadow) ≡ 514 * e .state .partitions
   pub output : length (e .output) ≡ 514 * e .state .partitions
@@ -29,7 +29,7 @@ pub record Sound (n f : ℕ) (e : Engine) : Type 0 where
 
 -- the same with carries of 256 numbers, as their type says in the code
 abbrev pub Good : Engine → Type 0
-Good e = Sound 256 256 e
+Good e = Intact 256 256 e
 
 -- ---- calls
 
