@@ -132,6 +132,8 @@ Leaks = (e : Engine) (near far out : List Float) (leak : Float)
 
 -- ---- the counters
 
+-- over a block of which the first n samples are valid: 256 in a process, and 1 to 255 in a flush
+
 -- "transfers goes up by 1" in a block that moves, and in no other
 abbrev pub Transfers : Type 0
 Transfers = (s : TauCanceller) (near far : List Float) (n : ℕ) (adapt : Bool) (sh ou xs : List Float)

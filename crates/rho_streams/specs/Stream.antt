@@ -17,7 +17,7 @@ use Rattle.rho.specs.Sample.{Engine, Stepped, loudOf, stepOf}
 use Rattle.rho_taps.specs.Update.{Adapted, scaleOf, updatedOf, soundOf, clearedOf}
 use Rattle.rho.specs.Pairs.{Run, pairsOf}
 use Rattle.rho.specs.Calls.{stateRefusal, processRefusal, Begun, Called, answerOf, resetOf, processOf, flushOf}
-use Rattle.streams.specs.Parts.{Part}
+use Rattle.streams.specs.Parts.{Part, Made}
 
 -- ---- calls
 
@@ -76,14 +76,8 @@ joined first second = record { engine = second .engine; samples = first .samples
 abbrev pub thenOf : Engine → List Float → List Float → List Float → List Float → Run
 thenOf e a c b d = let first = pairsOf e a c in joined first (pairsOf (first .engine) b d)
 
--- what calls one after the other have made: the state and the buffers after the last, all delivered samples joined, and each call's
--- refusal
-pub record Made : Type 0 where
-  pub run : Run
-  pub refusals : List ℕ
-
 -- the parts processed one after the other, each call on the state and the buffers that the one before it left
-unfoldable pub rowOf : Engine → List Part → Made
+unfoldable pub rowOf : Engine → List Part → Made Run
 rowOf e [] = record { run = waitsOf e; refusals = [] }
 rowOf e (p ∷ ps) =
     let call = processOf e (p .near) (p .far) (p .out) in

@@ -1,7 +1,7 @@
--- A stream cut into parts, for either engine. Definitions only.
+-- A stream cut into parts, and what calls in a row have made, for either engine. Definitions only.
 use mathlib.Core.Path.{_≡_}
 use mathlib.Core.List.{List, [], _∷_, _++_}
-use Prim.Native.Nat.{_≤_}
+use Prim.Native.Nat.{ℕ, _≤_}
 use lib.Ieee.{Float}
 use lib.ListN.{length}
 
@@ -28,3 +28,9 @@ allNear (p ∷ ps) = p .near ++ allNear ps
 unfoldable pub allFar : List Part → List Float
 allFar [] = []
 allFar (p ∷ ps) = p .far ++ allFar ps
+
+-- What calls one after the other have made: the run of all of them, with the state and the buffers after the last and all delivered samples
+-- joined, and each call's refusal. R is the engine's kind of run.
+pub record Made (R : Type 0) : Type 0 where
+  pub run : R
+  pub refusals : List ℕ

@@ -13,7 +13,8 @@ use Rattle.numbers.specs.Zeros.{Zero, Finite, Fits, Still}
 use Rattle.tau_block.specs.Silence.{Silent}
 use Rattle.tau_frame.specs.Pairs.{Engine, Run, waitsOf, deliversOf}
 use Rattle.tau.specs.Calls.{createOf, resetOf, processOf, flushOf}
-use Rattle.tau_streams.specs.Stream.{begunBy, ranBy, joined, Made, Call, feed, flush, reset}
+use Rattle.streams.specs.Parts.{Made}
+use Rattle.tau_streams.specs.Stream.{begunBy, ranBy, joined, Call, feed, flush, reset}
 
 -- ---- samples and engines
 
@@ -69,7 +70,7 @@ refusalBy e reset = resetOf e .answer .refusal
 
 -- the calls one after the other, each on the state and the buffers that the one before it left: what the last left, all delivered samples
 -- joined, and each call's refusal
-unfoldable pub callsOf : Engine → List Call → Made
+unfoldable pub callsOf : Engine → List Call → Made Run
 callsOf e [] = record { run = waitsOf e; refusals = [] }
 callsOf e (c ∷ cs) =
     let r = madeBy e c in

@@ -13,7 +13,7 @@ use Rattle.numbers.specs.Finite.{finiteOrZero}
 use Rattle.tau_steps.specs.Constants.{zero32}
 use Rattle.tau_steps.specs.Ranges.{Ranged}
 use Rattle.tau_frame.specs.Pairs.{Engine, Run, waitsOf, carrying, blockOf, lastOf, pairsOf, deliversOf}
-use Rattle.streams.specs.Parts.{Part}
+use Rattle.streams.specs.Parts.{Part, Made}
 use Rattle.tau.specs.Calls.{Begun, Called, resetOf, processOf, flushOf}
 
 -- ---- engines
@@ -125,14 +125,8 @@ paddedRest stream = let rest = drop (256 * (length stream / 256)) stream in clea
 
 -- ---- rows of calls
 
--- what calls one after the other have made: the state and the buffers after the last, all delivered samples joined, the outcome of the
--- last block, and each call's refusal
-pub record Made : Type 0 where
-  pub run : Run
-  pub refusals : List ℕ
-
 -- the parts processed one after the other, each call on the state and the buffers that the one before it left
-unfoldable pub rowOf : Engine → List Part → Made
+unfoldable pub rowOf : Engine → List Part → Made Run
 rowOf e [] = record { run = waitsOf e; refusals = [] }
 rowOf e (p ∷ ps) =
     let call = processOf e (p .near) (p .far) (p .out) in
