@@ -17,14 +17,14 @@ use Rattle.tau_frame.specs.Pairs.{Engine, Run, pairsOf, flushedOf}
 use Rattle.tau.specs.Calls.{createRefusal, Called, servedOf, processOf, flushOf}
 use Rattle.tau_streams.specs.Stream.{Good, joined}
 use Rattle.tau.proofs.Accepted.{State, create-answers, settings-accepted, process-accepted, flush-accepted, process-ran, flush-ran}
-use Rattle.tau_streams.proofs.Counts.{created-good, pairs-sound}
+use Rattle.tau_streams.proofs.Counts.{created-good, pairs-intact}
 use Rattle.tau_streams.specs.Silence.{Begins, created}
 use Rattle.tau_streams.proofs.Cut.{cut}
 use Rattle.tau_streams.proofs.Silence.{singer-stream}
 use Rattle.wire.specs.Wire.{patternAt, sampleAt, pairsIn, nearIn, farIn, restIn, bytesOf}
 use Rattle.wire.proofs.Captures.{near-cut, far-cut, rest-cut, near-same, far-same, rest-short, length-near, length-far, length-bytes, bytes-join}
 use Rattle.capture.specs.Feeds.{Fed, roomOf, writtenBy, fedOf, finishedOf}
-use Rattle.capture.specs.Program.{startOf, Going, leftBy, sentBy, buffer, readOf, readsOf, endOf, captureOf, Program, Singer}
+use Rattle.capture.specs.Program.{startOf, Going, leftBy, sentBy, buffer, lastBuffer, endedOf, readOf, readsOf, endOf, captureOf, Program, Singer}
 
 -- ---- a call that is accepted
 
@@ -65,19 +65,20 @@ record Ran (r : Run) (f : Fed) : Type 0 where
 served : (r : Run) (out : List Float) (bytes : List ℕ) → Ran r (writtenBy (servedOf r out) bytes)
 served r out bytes = record { left = served-left r out bytes; sent = served-sent r out bytes; taken = refl }
 
+module _ (e : Engine) (good : Good e) where
+  state : State (e .state) (length (e .shadow)) (length (e .output)) (length (e .spectra))
+  state = record { ranged = good .ranged; sizes = record { shadow = good .shadow; output = good .output; spectra = good .spectra } }
+
 module _ (e : Engine) (good : Good e) (bytes : List ℕ) (b : length bytes ≡ 16384) where
   room : length (roomOf bytes) ≡ 4096
   room = length-replicate (min (length bytes / 4) 4096) zero32 ∙ rw b refl
-
-  state : State (e .state) (length (e .shadow)) (length (e .output)) (length (e .spectra))
-  state = record { ranged = good .ranged; sizes = record { shadow = good .shadow; output = good .output; spectra = good .spectra } }
 
   -- at most 4,096 pairs
   pairs-ran : (near far : List Float) → length near ≡ length far → length near ≤ 4096 → processOf e near far (roomOf bytes) ≡ servedOf (pairsOf e near far) (roomOf bytes)
   pairs-ran near far level few =
       process-ran e near far (roomOf bytes)
       (process-accepted (e .state) _ _ _ _ _ _
-      (record { state = state; pairs = record { level = level; few = few; room = rw room (fits (e .state .carried) (length near) (good .ranged .waiting) few) } }))
+      (record { state = state e good; pairs = record { level = level; few = few; room = rw room (fits (e .state .carried) (length near) (good .ranged .waiting) few) } }))
     where
       fits : (c n : ℕ) → c ≤ 255 → n ≤ 4096 → (c + n) / 256 * 256 ≤ 4096
       fits c n h k = omega arith
@@ -95,18 +96,26 @@ module _ (e : Engine) (good : Good e) (bytes : List ℕ) (b : length bytes ≡ 1
       (λ i. processOf e (nears i) (fars i) (roomOf bytes)) ∙ pairs-ran near far (l ∙ sym (length-far held)) (omega (arith, l, h)) in
       subst (λ (c : Called). Ran (pairsOf e near far) (writtenBy c bytes)) (sym q) (served (pairsOf e near far) (roomOf bytes) bytes)
 
+-- and at the end, with room for the bytes of 256 samples
+module _ (e : Engine) (good : Good e) (bytes : List ℕ) (b : length bytes ≡ 1024) where
+  last-room : length (roomOf bytes) ≡ 256
+  last-room = length-replicate (min (length bytes / 4) 4096) zero32 ∙ rw b refl
+
   end-ran : Ran (flushedOf e) (finishedOf e bytes)
   unfolding finishedOf
   end-ran =
       let w = good .ranged .waiting in
       let q : flushOf e (roomOf bytes) ≡ servedOf (flushedOf e) (roomOf bytes) =
-      flush-ran e (roomOf bytes) (flush-accepted (e .state) _ _ _ _ (record { state = state; room = rw room (omega (arith, w)) })) in
+      flush-ran e (roomOf bytes) (flush-accepted (e .state) _ _ _ _ (record { state = state e good; room = rw last-room (omega (arith, w)) })) in
       subst (λ (c : Called). Ran (flushedOf e) (writtenBy c bytes)) (sym q) (served (flushedOf e) (roomOf bytes) bytes)
 
 -- ---- reads in a row
 
 long-buffer : length buffer ≡ 16384
 long-buffer = length-replicate {A = ℕ} 16384 0
+
+long-last : length lastBuffer ≡ 1024
+long-last = length-replicate {A = ℕ} 1024 0
 
 -- the run over the whole pairs of s, from the start
 abbrev runOf : List ℕ → Run
@@ -149,7 +158,7 @@ read-reached s r g h at =
     let e = runOf s .engine in
     let held = restIn s ++ r in
     let R = pairsOf e (nearIn held) (farIn held) in
-    let good = pairs-sound startOf (nearIn s) (farIn s) start-good in
+    let good = pairs-intact startOf (nearIn s) (farIn s) start-good in
     let long : length held ≤ 32775 = rw (length-append (restIn s) r) (omega (arith, rest-short s, h)) in
     let same : fedOf (g .engine) (g .rest ++ r) buffer ≡ fedOf e held buffer = λ i. fedOf (at .engine i) (at .rest i ++ r) buffer in
     let ran : Ran R (fedOf (g .engine) (g .rest ++ r) buffer) = subst (Ran R) (sym same) (feed-ran e good buffer long-buffer held long) in
@@ -182,8 +191,8 @@ program rs h =
     let at : Reached s g = reads-reached [] _ rs h none in
     let e = runOf s .engine in
     let F = flushedOf e in
-    let same : finishedOf (g .engine) buffer ≡ finishedOf e buffer = ap (λ (x : Engine). finishedOf x buffer) (at .engine) in
-    let ran : Ran F (finishedOf (g .engine) buffer) = subst (Ran F) (sym same) (end-ran e (pairs-sound startOf (nearIn s) (farIn s) start-good) buffer long-buffer) in
+    let same : endedOf (g .engine) ≡ endedOf e = ap endedOf (at .engine) in
+    let ran : Ran F (endedOf (g .engine)) = subst (Ran F) (sym same) (end-ran e (pairs-intact startOf (nearIn s) (farIn s) start-good) lastBuffer long-last) in
     ((λ i. at .written i ++ ran .sent i) ∙ sym (bytes-join (runOf s .samples) (F .samples)), all-append (at .taken) (all-cons (ran .taken) all-none))
 
 -- what is read is an f32, whatever the bytes

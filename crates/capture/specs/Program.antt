@@ -43,9 +43,12 @@ leftBy f = record { state = f .answer .state; shadow = f .shadow; output = f .ou
 abbrev pub sentBy : Fed → List ℕ
 sentBy f = take (4 * f .answer .delivered) (f .bytes)
 
--- a buffer for the bytes of 4,096 samples
+-- the program's buffers: for the bytes of 4,096 samples, and at the end for those of 256
 abbrev pub buffer : List ℕ
 buffer = replicate 16384 0
+
+abbrev pub lastBuffer : List ℕ
+lastBuffer = replicate 1024 0
 
 -- a turn on the bytes held: they are fed, and what is behind the last whole pair waits
 pub record Turned : Type 0 where
@@ -67,10 +70,22 @@ unfoldable pub readsOf : Going → List (List ℕ) → Going
 readsOf g [] = g
 readsOf g (r ∷ rs) = readsOf (readOf g r) rs
 
--- the flush, after which an unfinished pair is dropped
+-- the flush at the end, and of it the three lent buffers
+abbrev pub endedOf : Engine → Fed
+endedOf e = finishedOf e lastBuffer
+
+pub record Lent : Type 0 where
+  pub shadow : List Float
+  pub output : List Float
+  pub spectra : List Float
+
+abbrev pub lentBy : Fed → Lent
+lentBy f = record { shadow = f .shadow; output = f .output; spectra = f .spectra }
+
+-- after it an unfinished pair is dropped
 unfoldable pub endOf : Going → Going
 endOf g =
-    let f = finishedOf (g .engine) buffer in
+    let f = endedOf (g .engine) in
     record { engine = leftBy f; rest = []; written = g .written ++ sentBy f; refusals = g .refusals ++ (f .answer .refusal ∷ []) }
 
 -- all of it

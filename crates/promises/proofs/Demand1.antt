@@ -1,29 +1,30 @@
 -- Demand 1, from what each crate proves of its calls. Assumes nothing.
 use mathlib.Core.Path.{_≡_, refl, sym, ap, _∙_}
-use mathlib.Core.Bool.{Bool, true, false, _&&_}
+use mathlib.Core.Bool.{Bool, true, false}
 use mathlib.Core.List.{List, [], _∷_, _++_}
 use Prim.Native.Nat.{ℕ}
 use lib.Dec.{eqb}
 use lib.Ieee.{Float}
-use lib.ListN.{length}
 use Rattle.laws.specs.Choice.{pick, pick-yes, pick-no, pick-if}
-use Rattle.fft.specs.Calls.{Wrote, forwardOf, inverseOf}
+use Rattle.complex_fft.specs.Calls.{Wrote, complexOf}
+use Rattle.fft.specs.Calls.{lentOf, forwardOf, inverseOf, forwardWithOf, inverseWithOf, halfWithOf}
 use Rattle.rho.specs.Calls as rho
+use Rattle.rho.specs.State as rhoStates
 use Rattle.rho_streams.proofs.Counts as rhoCounts
 use Rattle.tau_state.specs.Ranges.{rangedOf}
 use Rattle.tau.specs.Fresh.{emptyOf}
 use Rattle.tau.specs.Calls as tau
 use Rattle.tau.proofs.Accepted as accepted
-use Rattle.promises.specs.Demand1.{Row, row, firstOf, Holding, Exactly, Transform, tauCreate, tauProcess, tauFlush, tauReset, tauUntouched, unbegunOf, tauUnbegun, rhoCreate, rhoProcess, rhoState, rhoUntouched}
+use Rattle.promises.specs.Demand1.{Test, firstOf, Holding, Exactly, TransformRefuses, ComplexRefuses, LentRefuses, TauCreateRefuses, TauProcessRefuses, TauFlushRefuses, TauResetRefuses, TauUntouched, unbegunOf, TauUnbegun, RhoCreateRefuses, RhoProcessRefuses, RhoStateRefuses, RhoUntouched, RhoUnbegun}
 
 -- ---- the table
 
-all-hold : (rs : List Row) → Holding rs → firstOf rs ≡ 0
+all-hold : (rs : List Test) → Holding rs → firstOf rs ≡ 0
 unfolding firstOf
 all-hold [] h = refl
 all-hold (r ∷ rs) h = sym (pick-yes _ _ _ (h .0) (sym (all-hold rs (h .1))))
 
-one-fails : (before after : List Row) (r : Row) → Holding before → r .holds ≡ false → firstOf (before ++ (r ∷ after)) ≡ r .number
+one-fails : (before after : List Test) (r : Test) → Holding before → r .holds ≡ false → firstOf (before ++ (r ∷ after)) ≡ r .number
 unfolding firstOf
 one-fails [] after r h f = sym (pick-no _ _ _ f refl)
 one-fails (b ∷ bs) after r h f = sym (pick-yes _ _ _ (h .0) (sym (one-fails bs after r (h .1) f)))
@@ -40,36 +41,50 @@ two false b x = refl
 
 -- ---- the real transform
 
-pub transform : Transform
-unfolding firstOf forwardOf inverseOf
-transform x out =
-    let f = eqb (length x) 512 && eqb (length out) 514 in
-    let i = eqb (length x) 514 && eqb (length out) 512 in (
-      pick-if (λ (w : Wrote). w .answer ≡ pick f 0 2) f (λ h. pick-yes _ _ _ h refl) (λ h. pick-no _ _ _ h refl),
-      pick-if (λ (w : Wrote). w .answer ≡ pick i 0 2) i (λ h. pick-yes _ _ _ h refl) (λ h. pick-no _ _ _ h refl),
-      pick-if (λ (w : Wrote). (w .answer ≡ 0 → ⊥) → w .out ≡ out) f (λ _ h. absurd (h refl)) (λ _ _. refl),
-      pick-if (λ (w : Wrote). (w .answer ≡ 0 → ⊥) → w .out ≡ out) i (λ _ h. absurd (h refl)) (λ _ _. refl),
-    )
+-- a call whose answer is 0 where the lengths are right, and else 2 with nothing written
+module _ (b : Bool) (done out : List Float) where
+  abbrev call : Wrote
+  call = pick b (record { answer = 0; out = done }) (record { answer = 2; out = out })
+
+  answers : call .answer ≡ firstOf (record { holds = b; number = 2 } ∷ [])
+  unfolding firstOf
+  answers = pick-if (λ (w : Wrote). w .answer ≡ pick b 0 2) b (λ h. pick-yes _ _ _ h refl) (λ h. pick-no _ _ _ h refl)
+
+  leaves : (call .answer ≡ 0 → ⊥) → call .out ≡ out
+  leaves = pick-if (λ (w : Wrote). (w .answer ≡ 0 → ⊥) → w .out ≡ out) b (λ _ h. absurd (h refl)) (λ _ _. refl)
+
+pub transform-refuses : TransformRefuses
+unfolding forwardOf inverseOf
+transform-refuses x out = (answers _ _ out, answers _ _ out, leaves _ _ out, leaves _ _ out)
+
+pub complex-refuses : ComplexRefuses
+unfolding complexOf
+complex-refuses inverse points = (answers _ _ points, leaves _ _ points)
+
+pub lent-refuses : LentRefuses
+unfolding forwardWithOf inverseWithOf halfWithOf lentOf
+lent-refuses t s x out later =
+    (answers _ _ out, answers _ _ out, answers _ _ out, leaves _ _ out, leaves _ _ out, leaves _ _ out)
 
 -- ---- TauCanceller
 
-pub tau-create : tauCreate
+pub tau-create-refuses : TauCreateRefuses
 unfolding firstOf tau.createRefusal
-tau-create parts flag sh ou xs = accepted.create-answers parts flag sh ou xs
+tau-create-refuses parts flag sh ou xs = accepted.create-answers parts flag sh ou xs
 
-pub tau-process : tauProcess
+pub tau-process-refuses : TauProcessRefuses
 unfolding firstOf tau.processRefusal tau.stateRefusal tau.pairsRefusal
-tau-process e near far out = accepted.process-answers e near far out ∙ two (rangedOf (e .state)) _ _
+tau-process-refuses e near far out = accepted.process-answers e near far out ∙ two (rangedOf (e .state)) _ _
 
-pub tau-flush : tauFlush
+pub tau-flush-refuses : TauFlushRefuses
 unfolding firstOf tau.flushRefusal tau.stateRefusal
-tau-flush e out = accepted.flush-answers e out ∙ two (rangedOf (e .state)) _ _
+tau-flush-refuses e out = accepted.flush-answers e out ∙ two (rangedOf (e .state)) _ _
 
-pub tau-reset : tauReset
+pub tau-reset-refuses : TauResetRefuses
 unfolding firstOf tau.stateRefusal
-tau-reset e = accepted.reset-answers e
+tau-reset-refuses e = accepted.reset-answers e
 
-pub tau-untouched : tauUntouched
+pub tau-untouched : TauUntouched
 tau-untouched e near far out =
     let p = accepted.process-answers e near far out in
     let f = accepted.flush-answers e out in (
@@ -77,7 +92,7 @@ tau-untouched e near far out =
       λ h. accepted.flush-refused e out (λ z. h (f ∙ z)) ∙ ap (λ (n : ℕ). tau.refusedOf n e out) (sym f),
     )
 
-pub tau-unbegun : tauUnbegun
+pub tau-unbegun : TauUnbegun
 tau-unbegun parts flag sh ou xs e =
     let c = accepted.create-answers parts flag sh ou xs in
     let r = accepted.reset-answers e in (
@@ -87,19 +102,27 @@ tau-unbegun parts flag sh ou xs e =
 
 -- ---- RhoCanceller
 
-pub rho-create : rhoCreate
+pub rho-create-refuses : RhoCreateRefuses
 unfolding firstOf rho.createRefusal
-rho-create rate tail w h = rhoCounts.create-answers rate tail w h
+rho-create-refuses rate tail w h = rhoCounts.create-answers rate tail w h
 
-pub rho-process : rhoProcess
+pub rho-process-refuses : RhoProcessRefuses
 unfolding firstOf rho.processRefusal rho.stateRefusal rho.pairsRefusal
-rho-process e near far out = rhoCounts.process-answers e near far out ∙ two (rho.rangedOf (e .state)) _ _
+rho-process-refuses e near far out = rhoCounts.process-answers e near far out ∙ two (rho.rangedOf (e .state)) _ _
 
-pub rho-state : rhoState
+pub rho-state-refuses : RhoStateRefuses
 unfolding firstOf rho.stateRefusal
-rho-state e = (rhoCounts.flush-answers e, rhoCounts.reset-answers e)
+rho-state-refuses e = (rhoCounts.flush-answers e, rhoCounts.reset-answers e)
 
-pub rho-untouched : rhoUntouched
-rho-untouched e near far out h =
+pub rho-untouched : RhoUntouched
+rho-untouched e near far out =
     let p = rhoCounts.process-answers e near far out in
-    rhoCounts.process-refused e near far out (λ z. h (p ∙ z)) ∙ ap (λ (n : ℕ). rho.untouchedOf n e out) (sym p)
+    (λ h. rhoCounts.process-refused e near far out (λ z. h (p ∙ z)) ∙ ap (λ (n : ℕ). rho.untouchedOf n e out) (sym p), rhoCounts.flush-untouched e ∙ ap (λ (n : ℕ). rho.untouchedOf n e []) (sym (rhoCounts.flush-answers e)))
+
+pub rho-unbegun : RhoUnbegun
+rho-unbegun rate tail w h e =
+    let c = rhoCounts.create-answers rate tail w h in
+    let r = rhoCounts.reset-answers e in (
+      λ n. rhoCounts.create-refused rate tail w h n ∙ ap (λ (k : ℕ). record { answer = record { refusal = k; state = rhoStates.emptyOf }; weights = w; history = h }) (sym c),
+      λ n. rhoCounts.reset-refused e n ∙ ap (λ (k : ℕ). record { answer = record { refusal = k; state = e .state }; weights = e .weights; history = e .history }) (sym r),
+    )

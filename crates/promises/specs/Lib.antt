@@ -2,6 +2,7 @@ pub mod Marked
 pub mod Demand1
 pub mod Demand2
 pub mod Demand3
+pub mod Clauses
 pub mod Program
 pub mod Manifest
 pub mod Answers

@@ -1,10 +1,10 @@
 -- The release list: the order of two lines is total, and numbers in them go by their value; a sorted manifest is its lines in that order, and
 -- no other text is. Statements; proved in proofs/Manifest.antt.
 use mathlib.Core.Path.{_≡_}
-use mathlib.Core.Bool.{true, false}
+use mathlib.Core.Bool.{true, false, _&&_}
 use mathlib.Core.List.{List, _∷_, _++_}
 use Prim.Native.Nat.{ℕ}
-use lib.Dec.{leb}
+use lib.Dec.{ltb, leb}
 use lib.ListN.{length}
 use Rattle.laws.specs.Kinds.{All}
 use Rattle.line_order.specs.Order.{isDigit, spelled, atMost}
@@ -26,6 +26,12 @@ Numerals = (ds es : List ℕ) → All (λ d. isDigit d ≡ true) ds → All (λ 
     → (atMost ds es ≡ leb (spelled ds) (spelled es))
     × ((q : List ℕ) (c : ℕ) → isDigit c ≡ false → atMost (q ++ c ∷ ds) (q ++ c ∷ es) ≡ leb (spelled ds) (spelled es))
 
+-- two bytes that differ and are not both digits, at the beginning or behind a byte that is no digit: they decide
+abbrev pub Bytes : Type 0
+Bytes =
+    ((x y : ℕ) (s t : List ℕ) → (isDigit x && isDigit y) ≡ false → (x ≡ y → ⊥) → atMost (x ∷ s) (y ∷ t) ≡ ltb x y)
+    × ((q : List ℕ) (c : ℕ) (u v : List ℕ) → isDigit c ≡ false → atMost (q ++ c ∷ u) (q ++ c ∷ v) ≡ atMost u v)
+
 -- and zeros that lead do not change the number
 abbrev pub Zeros : Type 0
 Zeros = (ds : List ℕ) → spelled (48 ∷ ds) ≡ spelled ds
@@ -39,6 +45,8 @@ pub record Sorted (text : List ℕ) : Type 0 where
   pub whole : joinedOf (endsInNewline text) (linesOf text) ≡ text
   -- and whoever puts the manifest's lines in order gets this text
   pub only : (ls : List (List ℕ)) → Permuted ls (linesOf text) → InOrder atMost ls → joinedOf (endsInNewline text) ls ≡ sortedOf text
+  -- so to sort it again changes nothing
+  pub again : sortedOf (sortedOf text) ≡ sortedOf text
 
 abbrev pub Sorts : Type 0
 Sorts = (text : List ℕ) → Sorted text

@@ -2,24 +2,25 @@
 --     delivers             a stream gives a sample for each pair
 --     create-answers, reset-answers, process-answers, flush-answers     a call answers the number of its refusal
 --     create-began, reset-began, process-ran     what an accepted creation, reset and process leaves
+--     create-refused, reset-refused     a refused creation or reset hands all back
 --     process-delivers     it answers 0 and counts every pair; the first places of its output buffer are the samples, the rest is as it was
 --     process-refused      a refused one delivers nothing and changes nothing
---     flush-delivers       a flush delivers nothing and changes nothing
+--     flush-untouched, flush-waits     a flush delivers nothing and changes nothing
 use mathlib.Core.Path.{_≡_, refl, sym, ap, _∙_, subst}
-use mathlib.Core.List.{List, [], _∷_, _++_}
+use mathlib.Core.List.{List, [], _∷_}
 use Prim.Native.Nat.{ℕ, suc}
 use native.Mathlib.Omega.{arith}
 use borrow.Author.Tests.{eqb-true, eq-eqb, ne-eqb}
 use lib.Dec.{eqb}
 use lib.Ieee.{Float}
-use lib.ListN.{length, take, drop, length-append, length-drop}
+use lib.ListN.{length, drop, length-append, length-drop}
 use lib.Seq.{take-at, drop-at}
 use Rattle.laws.specs.Choice.{pick-yes, pick-no, pick-if}
-use Rattle.rho.specs.State.{tapsOf, hangoverOf}
+use Rattle.rho.specs.State.{tapsOf, hangoverOf, emptyOf}
 use Rattle.rho.specs.Sample.{Engine}
 use Rattle.rho.specs.Pairs.{pairsOf}
-use Rattle.rho.specs.Calls.{createRefusal, Begun, Called, begunOf, createOf, resetOf, answerOf, untouchedOf, processOf, flushOf}
-use Rattle.rho_streams.specs.Stream.{leftBy, deliveredBy, stateNumber, processNumber, takenBy}
+use Rattle.rho.specs.Calls.{createRefusal, Begun, Called, begunOf, createOf, resetOf, untouchedOf, processOf, flushOf}
+use Rattle.rho_streams.specs.Stream.{stateNumber, processNumber, servedOf, Delivery, waitsOf, ranBy, takenBy}
 use Rattle.rho.proofs.Accepted.{accepted-pairs}
 
 -- A stream of N pairs gives N samples.
@@ -57,6 +58,19 @@ pub reset-began : (e : Engine) → resetOf e .answer .refusal ≡ 0 → resetOf 
 unfolding resetOf
 reset-began e h = sym (pick-yes _ _ _ (eq-eqb (stateNumber e) 0 (sym (reset-answers e) ∙ h)) refl)
 
+-- A refused creation or reset hands all back; a creation's state is then all zero.
+pub create-refused : (rate tail : ℕ) (weights history : List Float) → (createOf rate tail weights history .answer .refusal ≡ 0 → ⊥)
+    → createOf rate tail weights history
+    ≡ record { answer = record { refusal = createRefusal rate tail (length weights) (length history); state = emptyOf }; weights = weights; history = history }
+unfolding createOf
+create-refused rate tail weights history n =
+    sym (pick-no _ _ _ (ne-eqb _ 0 (λ z. n (create-answers rate tail weights history ∙ z))) refl)
+
+pub reset-refused : (e : Engine) → (resetOf e .answer .refusal ≡ 0 → ⊥)
+    → resetOf e ≡ record { answer = record { refusal = stateNumber e; state = e .state }; weights = e .weights; history = e .history }
+unfolding resetOf
+reset-refused e n = sym (pick-no _ _ _ (ne-eqb _ 0 (λ z. n (reset-answers e ∙ z))) refl)
+
 -- ---- process
 
 -- A process answers the number of its refusal.
@@ -66,26 +80,12 @@ process-answers e near far out =
     let r = processNumber e near far out in
     pick-if (λ (c : Called). c .answer .refusal ≡ r) (eqb r 0) (λ t. sym (eqb-true r 0 t)) (λ _. refl)
 
--- what an accepted process leaves: the run's engine, and its samples over the front of the output buffer
-abbrev pub ranOf : Engine → List Float → List Float → List Float → Called
-ranOf e near far out =
-    let run = pairsOf e near far in
-    record { answer = answerOf 0 (length near) (run .engine .state); weights = run .engine .weights; history = run .engine .history; out = run .samples ++ drop (length near) out }
-
--- An accepted process leaves that.
-pub process-ran : (e : Engine) (near far out : List Float) → processNumber e near far out ≡ 0 → processOf e near far out ≡ ranOf e near far out
+-- An accepted process leaves the run over its pairs.
+pub process-ran : (e : Engine) (near far out : List Float) → processNumber e near far out ≡ 0 → processOf e near far out ≡ servedOf e near far out
 unfolding processOf
 process-ran e near far out h = sym (pick-yes _ _ _ (eq-eqb (processNumber e near far out) 0 h) refl)
 
--- An accepted process answers 0 and delivers a sample for each pair: they are the first places of its output buffer, which keeps
--- its length, and the rest of it is as it was.
-pub record Delivery (e : Engine) (near far out : List Float) (c : Called) : Type 0 where
-  pub accepted : c .answer .refusal ≡ 0
-  pub count : c .answer .delivered ≡ length near
-  pub long : length (c .out) ≡ length out
-  pub samples : take (length near) (c .out) ≡ pairsOf e near far .samples
-  pub rest : drop (length near) (c .out) ≡ drop (length near) out
-
+-- It answers 0 and delivers a sample for each pair.
 pub process-delivers : (e : Engine) (near far out : List Float) → processNumber e near far out ≡ 0 → Delivery e near far out (processOf e near far out)
 process-delivers e near far out h =
     let p = accepted-pairs (e .state) (length (e .weights)) (length (e .history)) (length near) (length far) (length out) h .pairs in
@@ -111,7 +111,10 @@ pub flush-answers : (e : Engine) → flushOf e .answer .refusal ≡ stateNumber 
 unfolding flushOf
 flush-answers e = refl
 
--- A flush, accepted or not, delivers nothing and leaves the state and the buffers as they were.
-pub flush-delivers : (e : Engine) → (flushOf e .answer .delivered ≡ 0) × (deliveredBy (flushOf e) ≡ []) × (leftBy (flushOf e) ≡ e)
+-- A flush, accepted or not, hands all back: it delivers nothing and leaves the state and the buffers as they were.
+pub flush-untouched : (e : Engine) → flushOf e ≡ untouchedOf (stateNumber e) e []
 unfolding flushOf
-flush-delivers e = (refl, refl, refl)
+flush-untouched e = refl
+
+pub flush-waits : (e : Engine) → ranBy (flushOf e) ≡ waitsOf e
+flush-waits e = ap ranBy (flush-untouched e)

@@ -1,9 +1,9 @@
 -- How a stream is cut into calls does not matter. Assumes nothing.
 --     cut                  a stream cut in two: the engine and the samples are those of the two runs, one after the other
---     parts-join           a stream cut anyhow: the same of all its parts
---     cuts-agree           so two cuts of one stream agree
 --     step-ranged, step-ready, pairs-ready     a pair, and a run, keep a state in range and buffers of its size
 --     created-ready, reset-ready     and so creation and reset leave it
+--     ready-accepted, process-accepted     so it is accepted, and pairs with it that are in order by themselves
+--     call-ran             an accepted call leaves and delivers what the run over its pairs does
 --     row-accepted         a row of calls on such a state, each in order by itself, is accepted
 --     row-runs             a row of accepted calls leaves and delivers what the run over the whole stream does
 --     row-delivers         so it has delivered a sample for each pair given
@@ -28,7 +28,9 @@ use Rattle.rho.specs.Sample.{Engine, freezeOf, afterOf, stepOf}
 use Rattle.rho_taps.specs.Update.{Adapted, updatedOf, clearedOf, adaptedOf}
 use Rattle.rho.specs.Pairs.{Run, pairsOf}
 use Rattle.rho.specs.Calls.{settingsOf, sizedOf, rangedOf, createRefusal, stateRefusal, pairsRefusal, processRefusal, Called, begunOf, createOf, resetOf, processOf}
-use Rattle.rho_streams.specs.Stream.{begunBy, leftBy, deliveredBy, processNumber, Part, Level, Room, nearOf, farOf, thenOf, partsOf, rowOf, AllAccepted, takenBy}
+use Rattle.streams.specs.Parts.{Part, Level, Fair, allNear, allFar}
+use Rattle.streams.proofs.Parts.{parts-fair}
+use Rattle.rho_streams.specs.Stream.{begunBy, leftBy, ranBy, processNumber, Room, joined, thenOf, rowOf, AllAccepted, takenBy}
 use Rattle.rho.proofs.Going.{next-small}
 use Rattle.rho.proofs.Accepted.{Ranged, State, accepted-state, Pairs, accepted-pairs, taps-some}
 use Rattle.rho_streams.proofs.Counts.{delivers, create-answers, create-began, reset-answers, reset-began, process-answers, process-ran, process-delivers}
@@ -44,20 +46,6 @@ cut e (x ∷ a) b [] d h = absurd (omega arith)
 cut e (x ∷ a) b (y ∷ c) d h =
     let t = takenBy e x y in
     ap (λ (r : Run). record { engine = r .engine; samples = t .output ∷ r .samples }) (cut (t .engine) a b c d (omega arith))
-
--- A stream cut anyhow: the parts run one after the other give what the whole stream gives.
-pub parts-join : (e : Engine) (ps : List Part) → All Level ps → partsOf e ps ≡ pairsOf e (nearOf ps) (farOf ps)
-unfolding partsOf nearOf farOf pairsOf
-parts-join e [] h = refl
-parts-join e (p ∷ ps) h =
-    let run = pairsOf e (p .near) (p .far) in
-    ap (λ (r : Run). record { engine = r .engine; samples = run .samples ++ r .samples }) (parts-join (run .engine) ps (record { each = h .each .1 }))
-    ∙ sym (cut e (p .near) (nearOf ps) (p .far) (farOf ps) (h .each .0 .level))
-
--- Two cuts of one stream agree.
-pub cuts-agree : (e : Engine) (ps qs : List Part) → All Level ps → All Level qs → nearOf ps ≡ nearOf qs → farOf ps ≡ farOf qs → partsOf e ps ≡ partsOf e qs
-cuts-agree e ps qs hp hq n f =
-    parts-join e ps hp ∙ ap (λ (l : List Float). pairsOf e l (farOf ps)) n ∙ ap (pairsOf e (nearOf qs)) f ∙ sym (parts-join e qs hq)
 
 -- ---- a pair keeps the state in range and the buffers' sizes
 
@@ -161,7 +149,7 @@ reset-ready e h =
 -- ---- what is in order is accepted
 
 -- a state in range, with buffers of its size
-ready-accepted : (s : RhoCanceller) (w h : ℕ) → State s w h → stateRefusal s w h ≡ 0
+pub ready-accepted : (s : RhoCanceller) (w h : ℕ) → State s w h → stateRefusal s w h ≡ 0
 unfolding stateRefusal rangedOf sizedOf
 ready-accepted s w h r =
     let a = r .ranged in
@@ -177,110 +165,80 @@ pairs-accepted n f o h =
     sym (pick-yes _ _ _ (eq-eqb n f (h .level)) (pick-yes _ _ _ (le-leb n 4096 (h .few)) (pick-yes _ _ _ (le-leb n o (h .room)) refl)))
 
 -- both together
-process-accepted : (e : Engine) (near far out : List Float) → Ready e → Pairs (length near) (length far) (length out) → processNumber e near far out ≡ 0
+pub process-accepted : (e : Engine) (near far out : List Float) → Ready e → Pairs (length near) (length far) (length out) → processNumber e near far out ≡ 0
 unfolding processRefusal
 process-accepted e near far out r p =
     sym (pick-yes _ _ _ (eq-eqb _ 0 (ready-accepted (e .state) (length (e .weights)) (length (e .history)) r)) (sym (pairs-accepted _ _ _ p)))
 
 -- ---- rows of calls
 
--- a part that is in order by itself: as many near as far samples, at most 4,096 of them, and room for as many
-pub record Fair (p : Part) : Type 0 where
-  pub pairs : Pairs (length (p .near)) (length (p .far)) (length (p .out))
-
--- an accepted call leaves and delivers what the run over its pairs does
-call-left : (e : Engine) (near far out : List Float) → processNumber e near far out ≡ 0 → leftBy (processOf e near far out) ≡ pairsOf e near far .engine
-call-left e near far out h = ap leftBy (process-ran e near far out h)
-
-call-delivered : (e : Engine) (near far out : List Float) → processNumber e near far out ≡ 0 → deliveredBy (processOf e near far out) ≡ pairsOf e near far .samples
-call-delivered e near far out h =
+-- An accepted call leaves and delivers what the run over its pairs does.
+pub call-ran : (e : Engine) (near far out : List Float) → processNumber e near far out ≡ 0 → ranBy (processOf e near far out) ≡ pairsOf e near far
+call-ran e near far out h =
     let d = process-delivers e near far out h in
-    ap (λ (n : ℕ). take n (processOf e near far out .out)) (d .count) ∙ d .samples
+    let c = processOf e near far out in
+    let left = ap leftBy (process-ran e near far out h) in
+    let given = ap (λ (n : ℕ). take n (c .out)) (d .count) ∙ d .samples in
+    λ i. record { engine = left i; samples = given i }
 
 -- A row of calls is accepted where its first state is in range with buffers of its size, and each part is in order by itself.
-pub row-accepted : (e : Engine) (ps : List Part) → Ready e → All Fair ps → AllAccepted e ps
+pub row-accepted : (e : Engine) (ps : List Part) → Ready e → All Fair ps → All Room ps → AllAccepted e ps
 unfolding rowOf
-row-accepted e [] r h = all-none
-row-accepted e (p ∷ ps) r h =
-    let z = process-accepted e (p .near) (p .far) (p .out) r (h .each .0 .pairs) in
-    let rest = row-accepted (pairsOf e (p .near) (p .far) .engine) ps (pairs-ready e (p .near) (p .far) r) (record { each = h .each .1 }) in
-    all-cons (process-answers e (p .near) (p .far) (p .out) ∙ z) (subst (λ (d : Engine). AllAccepted d ps) (sym (call-left e (p .near) (p .far) (p .out) z)) rest)
+row-accepted e [] r h o = all-none
+row-accepted e (p ∷ ps) r h o =
+    let a = h .each .0 in
+    let z = process-accepted e (p .near) (p .far) (p .out) r (record { level = a .level; few = a .few; room = o .each .0 .room }) in
+    let next = pairs-ready e (p .near) (p .far) r in
+    let rest = row-accepted (pairsOf e (p .near) (p .far) .engine) ps next (record { each = h .each .1 }) (record { each = o .each .1 }) in
+    all-cons (process-answers e (p .near) (p .far) (p .out) ∙ z) (subst (λ (r : Run). AllAccepted (r .engine) ps) (sym (call-ran e (p .near) (p .far) (p .out) z)) rest)
 
 -- A row of accepted calls leaves the state and the buffers, and delivers the samples, of the run over the whole stream.
-pub record OneRun (e : Engine) (ps : List Part) : Type 0 where
-  pub engine : rowOf e ps .engine ≡ pairsOf e (nearOf ps) (farOf ps) .engine
-  pub samples : rowOf e ps .samples ≡ pairsOf e (nearOf ps) (farOf ps) .samples
-
-pub row-runs : (e : Engine) (ps : List Part) → AllAccepted e ps → OneRun e ps
-unfolding rowOf nearOf farOf pairsOf
-row-runs e [] h = record { engine = refl; samples = refl }
+pub row-runs : (e : Engine) (ps : List Part) → AllAccepted e ps → rowOf e ps .run ≡ pairsOf e (allNear ps) (allFar ps)
+unfolding rowOf allNear allFar pairsOf
+row-runs e [] h = refl
 row-runs e (p ∷ ps) h =
     let z = sym (process-answers e (p .near) (p .far) (p .out)) ∙ h .each .0 in
-    let left = call-left e (p .near) (p .far) (p .out) z in
+    let k = call-ran e (p .near) (p .far) (p .out) z in
     let run = pairsOf e (p .near) (p .far) in
-    let rest : OneRun (run .engine) ps = row-runs (run .engine) ps (subst (λ (d : Engine). AllAccepted d ps) left (record { each = h .each .1 })) in
+    let rest = row-runs (run .engine) ps (subst (λ (r : Run). AllAccepted (r .engine) ps) k (record { each = h .each .1 })) in
     let level = accepted-pairs (e .state) (length (e .weights)) (length (e .history)) _ _ _ z .pairs .level in
-    let k = cut e (p .near) (nearOf ps) (p .far) (farOf ps) level in
-    record {
-      engine = ap (λ (d : Engine). rowOf d ps .engine) left ∙ rest .engine ∙ sym (ap (λ (r : Run). r .engine) k);
-      samples =
-          ap (λ (l : List Float). l ++ rowOf (leftBy (processOf e (p .near) (p .far) (p .out))) ps .samples) (call-delivered e (p .near) (p .far) (p .out) z)
-          ∙ ap (λ (d : Engine). run .samples ++ rowOf d ps .samples) left
-          ∙ ap (λ (l : List Float). run .samples ++ l) (rest .samples)
-          ∙ sym (ap (λ (r : Run). r .samples) k);
-    }
+    ap (λ (r : Run). joined r (rowOf (r .engine) ps .run)) k
+    ∙ ap (joined run) rest
+    ∙ sym (cut e (p .near) (allNear ps) (p .far) (allFar ps) level)
 
 -- accepted calls are given as many near as far samples
-pub row-level : (e : Engine) (ps : List Part) → AllAccepted e ps → length (nearOf ps) ≡ length (farOf ps)
-unfolding rowOf nearOf farOf
+pub row-level : (e : Engine) (ps : List Part) → AllAccepted e ps → length (allNear ps) ≡ length (allFar ps)
+unfolding rowOf allNear allFar
 row-level e [] h = refl
 row-level e (p ∷ ps) h =
     let z = sym (process-answers e (p .near) (p .far) (p .out)) ∙ h .each .0 in
     let one = accepted-pairs (e .state) (length (e .weights)) (length (e .history)) _ _ _ z .pairs .level in
     let rest = row-level (leftBy (processOf e (p .near) (p .far) (p .out))) ps (record { each = h .each .1 }) in
-    omega (arith, length-append (p .near) (nearOf ps), length-append (p .far) (farOf ps))
+    omega (arith, length-append (p .near) (allNear ps), length-append (p .far) (allFar ps))
 
 -- So they have delivered a sample for each pair given.
-pub row-delivers : (e : Engine) (ps : List Part) → AllAccepted e ps → length (rowOf e ps .samples) ≡ length (nearOf ps)
-row-delivers e ps h = ap length (row-runs e ps h .samples) ∙ delivers e (nearOf ps) (farOf ps) (row-level e ps h)
+pub row-delivers : (e : Engine) (ps : List Part) → AllAccepted e ps → length (rowOf e ps .run .samples) ≡ length (allNear ps)
+row-delivers e ps h = ap (λ (r : Run). length (r .samples)) (row-runs e ps h) ∙ delivers e (allNear ps) (allFar ps) (row-level e ps h)
 
 -- Two rows of accepted calls over one stream agree.
-pub rows-agree : (e : Engine) (ps qs : List Part) → AllAccepted e ps → AllAccepted e qs → nearOf ps ≡ nearOf qs → farOf ps ≡ farOf qs
-    → (rowOf e ps .engine ≡ rowOf e qs .engine) × (rowOf e ps .samples ≡ rowOf e qs .samples)
+pub rows-agree : (e : Engine) (ps qs : List Part) → AllAccepted e ps → AllAccepted e qs → allNear ps ≡ allNear qs → allFar ps ≡ allFar qs
+    → rowOf e ps .run ≡ rowOf e qs .run
 rows-agree e ps qs hp hq n f =
-    let a = row-runs e ps hp in
-    let b = row-runs e qs hq in
-    let k : pairsOf e (nearOf ps) (farOf ps) ≡ pairsOf e (nearOf qs) (farOf qs) = rw (n, f) in
-    (a .engine ∙ ap (λ (r : Run). r .engine) k ∙ sym (b .engine), a .samples ∙ ap (λ (r : Run). r .samples) k ∙ sym (b .samples))
+    let k : pairsOf e (allNear ps) (allFar ps) ≡ pairsOf e (allNear qs) (allFar qs) = rw (n, f) in
+    row-runs e ps hp ∙ k ∙ sym (row-runs e qs hq)
 
 -- ---- a call cut into calls
-
--- no part is longer than the whole
-parts-fair : (ps : List Part) → length (nearOf ps) ≤ 4096 → All Level ps → All Room ps → All Fair ps
-unfolding nearOf
-parts-fair [] h l r = all-none
-parts-fair (p ∷ ps) h l r =
-    let k = length-append (p .near) (nearOf ps) in
-    all-cons
-    (record { pairs = record { level = l .each .0 .level; few = omega arith; room = r .each .0 .room } })
-    (parts-fair ps (omega arith) (record { each = l .each .1 }) (record { each = r .each .1 }))
 
 -- An accepted call cut anyhow into calls, each with as many near as far samples and with room for as many: they are all accepted,
 -- and what they leave and deliver together is what the uncut call leaves and delivers.
 pub record SameCall (e : Engine) (ps : List Part) (call : Called) : Type 0 where
   pub accepted : AllAccepted e ps
-  pub engine : rowOf e ps .engine ≡ leftBy call
-  pub samples : rowOf e ps .samples ≡ deliveredBy call
+  pub run : rowOf e ps .run ≡ ranBy call
 
-pub cut-call : (e : Engine) (ps : List Part) (out : List Float) → All Level ps → All Room ps → processOf e (nearOf ps) (farOf ps) out .answer .refusal ≡ 0
-    → SameCall e ps (processOf e (nearOf ps) (farOf ps) out)
+pub cut-call : (e : Engine) (ps : List Part) (out : List Float) → All Level ps → All Room ps → processOf e (allNear ps) (allFar ps) out .answer .refusal ≡ 0
+    → SameCall e ps (processOf e (allNear ps) (allFar ps) out)
 cut-call e ps out l r h =
-    let z = sym (process-answers e (nearOf ps) (farOf ps) out) ∙ h in
+    let z = sym (process-answers e (allNear ps) (allFar ps) out) ∙ h in
     let a = accepted-pairs (e .state) (length (e .weights)) (length (e .history)) _ _ _ z in
-    let t = row-accepted e ps (a .state) (parts-fair ps (a .pairs .few) l r) in
-    let w = row-runs e ps t in
-    record {
-      accepted = t;
-      engine = w .engine ∙ sym (call-left e (nearOf ps) (farOf ps) out z);
-      samples = w .samples ∙ sym (call-delivered e (nearOf ps) (farOf ps) out z);
-    }
+    let t = row-accepted e ps (a .state) (parts-fair ps (a .pairs .few) l) r in
+    record { accepted = t; run = row-runs e ps t ∙ sym (call-ran e (allNear ps) (allFar ps) out z) }

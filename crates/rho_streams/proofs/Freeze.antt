@@ -2,7 +2,8 @@
 --     loud-sets            a loud pair sets the freeze to the hangover count H
 --     quiet-counts         a quiet pair takes 1 off, if any is left
 --     quiet-run            N quiet pairs in a row take N off
---     freeze-ends          so after H of them nothing is left of any freeze; freeze-lasts, call-ends: not sooner, and what the call answers
+--     freeze-ends          so after H of them nothing is left of any freeze; freeze-lasts, loud-lasts, call-ends: not sooner, and what the
+--                          call answers
 --     diverged-clears, frozen-keeps, free-updates     the weights after a pair that diverged, that is frozen, and any other
 --     quiet-updates        where at most 1 is left before it, a quiet pair updates, unless its output diverged
 --     last-updates         so the H-th of H quiet pairs in a row does
@@ -68,6 +69,11 @@ freeze-ends e near far m l n h = let r = quiet-run e near far l h in omega arith
 pub freeze-lasts : (e : Engine) (near far : List Float) → length near ≡ length far → length near < remaining e
     → AllQuiet e near far → 0 < remaining (pairsOf e near far .engine)
 freeze-lasts e near far l n h = let r = quiet-run e near far l h in omega arith
+
+-- So after a loud pair any fewer than H quiet ones leave some.
+pub loud-lasts : (e : Engine) (x y : Float) (near far : List Float) → loudAt e x y ≡ true → length near ≡ length far → length near < hangover e
+    → AllQuiet (takenBy e x y .engine) near far → 0 < remaining (pairsOf (takenBy e x y .engine) near far .engine)
+loud-lasts e x y near far s l n h = freeze-lasts (takenBy e x y .engine) near far l (omega (arith, loud-sets e x y s, n)) h
 
 -- An accepted call of H quiet pairs in a row, or more, answers that no freeze is left.
 pub call-ends : (e : Engine) (near far out : List Float) → processOf e near far out .answer .refusal ≡ 0 → hangover e ≤ length near

@@ -1,12 +1,9 @@
 -- While the far end makes no sound, near is delivered as it is. Assumes nothing.
---     still-minus, still-nan, still-inf, minus-read     which far samples are no sound, and that a near -0.0 stays -0.0
 --     quiet-created, quiet-reset     creation and reset, accepted, leave an engine that has heard no far sound
 --     pair-passes          a pair with a still far sample: near is delivered bit for bit, and the engine has still heard nothing
 --     passes               a stream with still far samples: near is delivered, every sample of it
 --     passes-first         whatever pairs come behind it, its samples are delivered so
---     row-passes, row-passes-first     the same two of a row of accepted calls
---     created-passes       so from creation up to the first far sound, however the stream is cut
-use mathlib.Core.Path.{_≡_, refl, sym, ap, _∙_, subst}
+use mathlib.Core.Path.{_≡_, refl, sym, ap, _∙_}
 use mathlib.Core.Bool.{Bool, true}
 use mathlib.Core.List.{List, [], _∷_, _++_, map}
 use mathlib.Core.Logic.{inl, inr}
@@ -15,11 +12,11 @@ use native.Mathlib.Nat.{eq-or-lt-of-le, le-of-suc-le-suc}
 use native.Mathlib.Omega.{arith}
 use borrow.Author.Tests.{leb-false}
 use lib.Dec.{eqb, leb}
-use lib.Ieee.{Float, nan, inf, binary32, binary64, add, sub, mul, eq, ofBits}
+use lib.Ieee.{Float, nan, binary32, binary64, add, sub, mul}
 use lib.Ieee.Fits.{fits-widens}
 use lib.ListN.{length, getD, take, replicate, length-set, length-replicate, length-map}
 use lib.Seq.{take-at}
-use Rattle.laws.specs.Choice.{pick, pick-if, both}
+use Rattle.laws.specs.Choice.{pick-if, both}
 use Rattle.laws.specs.Loops.{iter, length-over}
 use Rattle.laws.specs.Kinds.{All, Kept, all-get, all-set, all-replicate, all-over-to, all-places, iter-keeps}
 use Rattle.numbers.specs.Finite.{plus, isFinite, finiteOrZero}
@@ -35,35 +32,11 @@ use Rattle.rho.specs.Sample.{Engine, afterOf, stepOf}
 use Rattle.rho_taps.specs.Update.{Adapted, nudgeOf, updatedOf, soundOf, clearedOf, adaptedOf}
 use Rattle.rho.specs.Pairs.{pairsOf}
 use Rattle.rho.specs.Calls.{begunOf, createOf, resetOf}
-use Rattle.rho_streams.specs.Stream.{begunBy, Part, nearOf, farOf, rowOf, AllAccepted, Quiet, takenBy, placeOf, heardOf, errorAt}
+use Rattle.rho_streams.specs.Stream.{begunBy, Quiet, takenBy, placeOf, heardOf, errorAt}
 use Rattle.rho.proofs.Going.{next-small}
 use Rattle.rho.proofs.Accepted.{accepted-state, taps-some}
 use Rattle.rho_streams.proofs.Counts.{create-began, reset-answers, reset-began}
-use Rattle.rho_streams.proofs.Cut.{cut, row-runs, row-level}
-
--- ---- what is no sound, and what passes
-
--- -0.0
-abbrev pub minus : Float
-minus = ofBits binary32 0x8000_0000
-
--- -0.0, NaN and the infinities are still.
-pub still-minus : Still minus
-unfolding ofBits finiteOrZero isFinite pick eq
-still-minus = record { still = refl }
-
-pub still-nan : Still nan
-unfolding finiteOrZero isFinite pick eq
-still-nan = record { still = refl }
-
-pub still-inf : (s : Bool) → Still (inf s)
-unfolding finiteOrZero isFinite pick eq
-still-inf s = record { still = refl }
-
--- A near sample -0.0 is read as -0.0.
-pub minus-read : finiteOrZero minus ≡ minus
-unfolding ofBits finiteOrZero isFinite pick
-minus-read = refl
+use Rattle.rho_streams.proofs.Cut.{cut}
 
 -- ---- small things
 
@@ -216,25 +189,3 @@ passes-first e a b c d h q n f =
     let p = passes e a c h q n f .0 in
     let k = cut e a b c d h in
     rw (k, p) (take-at (map finiteOrZero a) _ (length a) (length-map a finiteOrZero))
-
--- ---- calls
-
--- A row of accepted calls with still far samples delivers near, and leaves an engine that has heard nothing.
-pub row-passes : (e : Engine) (ps : List Part) → AllAccepted e ps → Quiet e → All Fits (nearOf ps) → All Still (farOf ps)
-    → (rowOf e ps .samples ≡ map finiteOrZero (nearOf ps)) × Quiet (rowOf e ps .engine)
-row-passes e ps h q n f =
-    let p = passes e (nearOf ps) (farOf ps) (row-level e ps h) q n f in
-    let r = row-runs e ps h in
-    (r .samples ∙ p .0, subst Quiet (sym (r .engine)) (p .1))
-
--- A row of accepted calls whose far samples are still up to some pair, wherever that lies in the calls: so far it delivers near.
-pub row-passes-first : (e : Engine) (ps : List Part) (a b c d : List Float) → AllAccepted e ps → nearOf ps ≡ a ++ b → farOf ps ≡ c ++ d → length a ≡ length c
-    → Quiet e → All Fits a → All Still c → take (length a) (rowOf e ps .samples) ≡ map finiteOrZero a
-row-passes-first e ps a b c d h n f l q A C = rw (row-runs e ps h .samples, n, f) (passes-first e a b c d l q A C)
-
--- From an accepted creation on: up to the first far sound near is delivered, however the stream is cut into calls.
-pub created-passes : (rate tail : ℕ) (weights history : List Float) (ps : List Part) (a b c d : List Float) → createOf rate tail weights history .answer .refusal ≡ 0
-    → AllAccepted (begunBy (createOf rate tail weights history)) ps → nearOf ps ≡ a ++ b → farOf ps ≡ c ++ d → length a ≡ length c → All Fits a → All Still c
-    → take (length a) (rowOf (begunBy (createOf rate tail weights history)) ps .samples) ≡ map finiteOrZero a
-created-passes rate tail weights history ps a b c d r h n f l A C =
-    row-passes-first (begunBy (createOf rate tail weights history)) ps a b c d h n f l (quiet-created rate tail weights history r) A C

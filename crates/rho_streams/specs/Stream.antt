@@ -1,11 +1,12 @@
--- What the theorems on streams speak of: a stream cut into calls, far silence, and quiet pairs in a row. Definitions only, and no
--- contract cites them.
+-- What the theorems on streams speak of: a stream cut into calls, any calls since a creation or reset, far silence, and quiet pairs in a
+-- row. Definitions only, and no contract cites them.
 use mathlib.Core.Path.{_≡_}
 use mathlib.Core.Bool.{Bool, false}
 use mathlib.Core.List.{List, [], _∷_, _++_}
 use Prim.Native.Nat.{ℕ, _≤_, _<_}
+use lib.Dec.{eqb}
 use lib.Ieee.{Float, binary64, sub}
-use lib.ListN.{length, set, take}
+use lib.ListN.{length, set, take, drop}
 use Rattle.laws.specs.Choice.{pick}
 use Rattle.laws.specs.Kinds.{All, Kept}
 use Rattle.numbers.specs.Finite.{isFinite, finiteOrZero}
@@ -15,7 +16,8 @@ use Rattle.rho_taps.specs.Ring.{nextOf, estimateOf, energyOf, peakOf}
 use Rattle.rho.specs.Sample.{Engine, Stepped, loudOf, stepOf}
 use Rattle.rho_taps.specs.Update.{Adapted, scaleOf, updatedOf, soundOf, clearedOf}
 use Rattle.rho.specs.Pairs.{Run, pairsOf}
-use Rattle.rho.specs.Calls.{stateRefusal, processRefusal, Begun, Called, processOf}
+use Rattle.rho.specs.Calls.{stateRefusal, processRefusal, Begun, Called, answerOf, resetOf, processOf, flushOf}
+use Rattle.streams.specs.Parts.{Part, Made}
 
 -- ---- calls
 
@@ -30,6 +32,10 @@ leftBy c = record { state = c .answer .state; weights = c .weights; history = c 
 abbrev pub deliveredBy : Called → List Float
 deliveredBy c = take (c .answer .delivered) (c .out)
 
+-- both, as a run
+abbrev pub ranBy : Called → Run
+ranBy c = record { engine = leftBy c; samples = deliveredBy c }
+
 -- the number of a reset's and of a flush's refusal, and of a process's
 abbrev pub stateNumber : Engine → ℕ
 stateNumber e = stateRefusal (e .state) (length (e .weights)) (length (e .history))
@@ -37,63 +43,89 @@ stateNumber e = stateRefusal (e .state) (length (e .weights)) (length (e .histor
 abbrev pub processNumber : Engine → List Float → List Float → List Float → ℕ
 processNumber e near far out = processRefusal (e .state) (length (e .weights)) (length (e .history)) (length near) (length far) (length out)
 
+-- what an accepted process leaves: the run's engine, and its samples over the front of the output buffer
+abbrev pub servedOf : Engine → List Float → List Float → List Float → Called
+servedOf e near far out =
+    let run = pairsOf e near far in
+    record { answer = answerOf 0 (length near) (run .engine .state); weights = run .engine .weights; history = run .engine .history; out = run .samples ++ drop (length near) out }
+
+-- An accepted process answers 0 and delivers a sample for each pair: they are the first places of its output buffer, which keeps
+-- its length, and the rest of it is as it was.
+pub record Delivery (e : Engine) (near far out : List Float) (c : Called) : Type 0 where
+  pub accepted : c .answer .refusal ≡ 0
+  pub count : c .answer .delivered ≡ length near
+  pub long : length (c .out) ≡ length out
+  pub samples : take (length near) (c .out) ≡ pairsOf e near far .samples
+  pub rest : drop (length near) (c .out) ≡ drop (length near) out
+
 -- ---- a stream cut into parts
-
--- a part of a stream, and the output buffer that is lent for it
-pub record Part : Type 0 where
-  pub near : List Float
-  pub far : List Float
-  pub out : List Float
-
--- as many near samples as far samples
-pub record Level (p : Part) : Type 0 where
-  pub level : length (p .near) ≡ length (p .far)
 
 -- an output buffer that holds the part's samples
 pub record Room (p : Part) : Type 0 where
   pub room : length (p .near) ≤ length (p .out)
 
--- the whole stream's near samples, and its far samples
-unfoldable pub nearOf : List Part → List Float
-nearOf [] = []
-nearOf (p ∷ ps) = p .near ++ nearOf ps
+-- where no pair has come
+abbrev pub waitsOf : Engine → Run
+waitsOf e = record { engine = e; samples = [] }
 
-unfoldable pub farOf : List Part → List Float
-farOf [] = []
-farOf (p ∷ ps) = p .far ++ farOf ps
+-- two runs one after the other: the last engine, and the samples of both
+abbrev pub joined : Run → Run → Run
+joined first second = record { engine = second .engine; samples = first .samples ++ second .samples }
 
--- A run over a and c, and from where it ended one over b and d: the last engine, and the samples of both.
+-- A run over a and c, and from where it ended one over b and d.
 abbrev pub thenOf : Engine → List Float → List Float → List Float → List Float → Run
-thenOf e a c b d =
-    let first = pairsOf e a c in
-    let second = pairsOf (first .engine) b d in
-    record { engine = second .engine; samples = first .samples ++ second .samples }
-
--- the parts run one after the other, each from where the one before it ended
-unfoldable pub partsOf : Engine → List Part → Run
-partsOf e [] = record { engine = e; samples = [] }
-partsOf e (p ∷ ps) =
-    let run = pairsOf e (p .near) (p .far) in
-    let rest = partsOf (run .engine) ps in
-    record { engine = rest .engine; samples = run .samples ++ rest .samples }
-
--- what a row of calls leaves: the state and the buffers after the last, all delivered samples joined, and each call's refusal
-pub record Row : Type 0 where
-  pub engine : Engine
-  pub samples : List Float
-  pub refusals : List ℕ
+thenOf e a c b d = let first = pairsOf e a c in joined first (pairsOf (first .engine) b d)
 
 -- the parts processed one after the other, each call on the state and the buffers that the one before it left
-unfoldable pub rowOf : Engine → List Part → Row
-rowOf e [] = record { engine = e; samples = []; refusals = [] }
+unfoldable pub rowOf : Engine → List Part → Made Run
+rowOf e [] = record { run = waitsOf e; refusals = [] }
 rowOf e (p ∷ ps) =
     let call = processOf e (p .near) (p .far) (p .out) in
     let rest = rowOf (leftBy call) ps in
-    record { engine = rest .engine; samples = deliveredBy call ++ rest .samples; refusals = call .answer .refusal ∷ rest .refusals }
+    record { run = joined (ranBy call) (rest .run); refusals = call .answer .refusal ∷ rest .refusals }
 
 -- every call of the row is accepted
 abbrev pub AllAccepted : Engine → List Part → Type 0
 AllAccepted e ps = All (λ r. r ≡ 0) (rowOf e ps .refusals)
+
+-- ---- calls of every kind
+
+-- a call on an engine: a process of a part, a flush, or a reset
+pub data Call : Type 0 where
+  feed : Part → Call
+  flush : Call
+  reset : Call
+
+-- What has come since the last creation or reset: the engine as that left it, the pairs that were accepted since, and what the calls
+-- since have made of it: the engine now, and all samples delivered since.
+pub record Since : Type 0 where
+  pub start : Engine
+  pub near : List Float
+  pub far : List Float
+  pub run : Run
+
+-- nothing yet
+abbrev pub anew : Engine → Since
+anew e = record { start = e; near = []; far = []; run = waitsOf e }
+
+-- a call more, that began nothing anew: all pairs with its own, and what it did
+abbrev pub onward : Since → List Float → List Float → Run → Since
+onward t near far r = record { start = t .start; near = near; far = far; run = joined (t .run) r }
+
+-- One call more, on the engine as it is now. A refused one adds no pairs.
+unfoldable pub afterCall : Since → Call → Since
+afterCall t (feed p) =
+    let c = processOf (t .run .engine) (p .near) (p .far) (p .out) in
+    pick (eqb (c .answer .refusal) 0) (onward t (t .near ++ p .near) (t .far ++ p .far) (ranBy c)) (onward t (t .near) (t .far) (ranBy c))
+afterCall t flush = onward t (t .near) (t .far) (ranBy (flushOf (t .run .engine)))
+afterCall t reset =
+    let b = resetOf (t .run .engine) in
+    pick (eqb (b .answer .refusal) 0) (anew (begunBy b)) (onward t (t .near) (t .far) (waitsOf (begunBy b)))
+
+-- all calls of a list, one after the other
+unfoldable pub afterCalls : Since → List Call → Since
+afterCalls t [] = t
+afterCalls t (c ∷ cs) = afterCalls (afterCall t c) cs
 
 -- ---- far silence
 
@@ -102,6 +134,14 @@ pub record Quiet (e : Engine) : Type 0 where
   pub ring : e .state .pos < e .state .taps
   pub weights : Kept Plus (e .state .taps) (e .weights)
   pub history : Kept Zero (e .state .taps) (e .history)
+
+-- From an engine that is accepted and has heard no far sound, as many near as far samples, and all is as one run over the uncut stream
+-- since makes it.
+pub record Uncut (t : Since) : Type 0 where
+  pub accepted : stateNumber (t .start) ≡ 0
+  pub quiet : Quiet (t .start)
+  pub level : length (t .near) ≡ length (t .far)
+  pub run : t .run ≡ pairsOf (t .start) (t .near) (t .far)
 
 -- ---- one pair, near x and far y, as an engine meets it: the names of what `stepOf` computes
 

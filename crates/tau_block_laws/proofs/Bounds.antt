@@ -26,6 +26,7 @@ use Rattle.numbers.proofs.Ranged.{unit-mul, unit-min, power-square, power-add, 
 use Rattle.numbers.proofs.Tests.{round-no-nan}
 use Rattle.complex.specs.Complexes.{getC}
 use Rattle.tau_state.specs.Constants.{zero64, one, f0·0003, f0·02, f0·1}
+use Rattle.tau_block_laws.specs.Bounds.{Factor, Target}
 use Rattle.tau_spectra.specs.Bins.{powerAt}
 use Rattle.tau_update.specs.Update.{farPowerTo, factorOf}
 use Rattle.tau_suppressor.specs.Suppressor.{targetOf}
@@ -45,11 +46,6 @@ lt-above (fin false m e) h = lt→ltb 0 m (first-pos m (up e) (rw (zero-mul, mul
 raised : {x : Float} → Unit x → T (le (maxOf x f0·02) one)
 unfolding maxOf le ofBits
 raised {x} u = pick-if (λ r. T (le r one)) (isNan x) (λ _. tt) (λ _. pick-if (λ r. T (le r one)) (lt x f0·02) (λ _. tt) (λ _. u .high))
-
--- from 0.02 to 1
-pub record Factor (r : Float) : Type 0 where
-  pub low : T (le f0·02 r)
-  pub high : T (le r one)
 
 -- 0.02 or more of any numbers,
 pub factor-low : (mean power : Float) → T (le f0·02 (factorOf mean power))
@@ -85,11 +81,6 @@ step-factor xs means parts k =
     factor-bounds (getD means k nan) (getD (farPowerTo xs parts) k nan) (all-get-or k (far-powers xs parts) (record { power = tt }))
 
 -- ---- the suppressor's target
-
--- from 0.1 to 1
-pub record Target (r : Float) : Type 0 where
-  pub low : T (le f0·1 r)
-  pub high : T (le r one)
 
 one-target : Target one
 unfolding le ofBits

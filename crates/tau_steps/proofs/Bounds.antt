@@ -22,6 +22,7 @@ use Rattle.numbers.specs.Order.{minOf}
 use Rattle.numbers.specs.Ranges.{one}
 use Rattle.numbers.proofs.Ordered.{total, min-right, same-of-le}
 use Rattle.tau_state.specs.Constants.{zero64, f0·1, f0·5, f0·75}
+use Rattle.tau_steps.specs.Bounds.{Leak}
 use Rattle.tau_state.specs.Sums.{energyOf}
 use Rattle.tau_steps.specs.Clears.{divergeShadow, divergeOf, retireOutput}
 use Rattle.tau_steps.specs.Detector.{countOf, learned, stands, judged}
@@ -87,11 +88,6 @@ above-lt (inf true) h = h
 above-lt (inf false) h = tt
 above-lt (fin true m e) h = absurd h
 above-lt (fin false m e) h = lt→ltb (0 * down e) (m * up e * 1) (rw (zero-mul, mul-one) (mul-pos (ltb→lt 0 m h) (up-pos e)))
-
--- above 0 and at most 0.75
-pub record Leak (r : Float) : Type 0 where
-  pub low : T (lt zero64 r)
-  pub high : T (le r f0·75)
 
 -- 0.75 times a y from 0.2 to 1
 scaled : (y : Float) → T (le fifth y) → T (le y one) → Leak (mul binary64 most y)

@@ -1,24 +1,27 @@
 -- A stream by blocks: what the carry holds, and which samples a block is run on. Assumes nothing.
+--     block-carry, blocks-carry     what stands in the carry does not matter to a block, nor to blocks in a row: it is handed through
 --     whole-block          256 pairs from an empty carry are a block of them
 --     rest-waits           fewer run no block, and the carry holds them
 --     stream-blocks        so from an empty carry a stream delivers the samples of its whole blocks of 256 pairs, one after the other, and
 --                          its last outcome is theirs
 --     rest-flushed         a flush after fewer is a block of them and then 0.0 up to 256, that does not adapt and delivers as many
 use mathlib.Core.Path.{_≡_, refl, sym, ap, _∙_, subst}
-use mathlib.Core.Bool.{true, false}
+use mathlib.Core.Bool.{Bool, true, false}
 use mathlib.Core.List.{List, [], _∷_, _++_, append-assoc, append-nil}
-use Prim.Native.Nat.{ℕ, zero, suc, _+_, _*_, _/_, _≤_, _<_}
+use Prim.Native.Nat.{ℕ, zero, suc, _+_, _-_, _*_, _/_, _%_, _≤_, _<_}
 use native.Mathlib.Omega.{arith}
 use native.Mathlib.Numerals.{add-one}
 use borrow.Author.Tests.{eq-eqb, ne-eqb}
 use lib.Ieee.{Float}
-use lib.ListN.{length, take, drop, set, length-drop, length-set, length-map, take-append-drop, drop-of-length-le}
+use lib.ListN.{length, take, drop, set, replicate, length-drop, length-set, length-map, take-append-drop, drop-of-length-le}
 use lib.Seq.{take-at, drop-drop, take-suc-set, drop-set-lt, length-take-le}
 use Rattle.laws.specs.Choice.{pick-yes, pick-no}
 use Rattle.numbers.specs.Finite.{finiteOrZero}
-use Rattle.tau_frame.specs.Pairs.{Engine, Run, waitsOf, carrying, blockOf, fillOf, pairOf, pairsOf, flushedOf}
-use Rattle.tau_streams.specs.Stream.{Good, joined, cleanOf, blockOn, blocksOf, waiting, blocksThen, byBlocks, restOf}
-use Rattle.tau_streams.proofs.Counts.{pairs-sound, carries}
+use Rattle.tau_frame.specs.Pairs.{Engine, Run, waitsOf, blockOf, fillOf, pairOf, pairsOf, flushedOf}
+use Rattle.tau_block.specs.Block.{runBlock}
+use Rattle.tau_state.specs.Constants.{zero32}
+use Rattle.tau_streams.specs.Stream.{Good, joined, cleanOf, withCarry, withCarryAfter, blockOn, blocksOf, writtenTo, carryOf, byBlocks}
+use Rattle.tau_streams.proofs.Counts.{pairs-intact}
 use Rattle.tau_streams.proofs.Cut.{joined-first, joined-last, cut}
 
 -- ---- a list stored over a part of another
@@ -44,11 +47,7 @@ stored-all l k s z h =
 
 -- ---- the carry, filled by pairs
 
--- the engine with another carry
-abbrev withCarry : Engine → List Float → List Float → ℕ → Engine
-withCarry e ns fs c = record { state = carrying (e .state) ns fs c; shadow = e .shadow; output = e .output; spectra = e .spectra }
-
--- with the pairs stored behind those that it holds
+-- the engine with the pairs stored behind those that it holds
 abbrev filled : Engine → List Float → List Float → Engine
 filled e near far =
     let s = e .state in
@@ -131,9 +130,27 @@ fills-run e (x ∷ w ∷ near) (y ∷ z ∷ far) h l j k =
 good-wide : (e : Engine) → Good e → Wide e
 good-wide e g = record { near = g .near; far = g .far }
 
--- 256 pairs from an empty carry are a block of them.
+-- What stands in the carry does not matter to a block: it is handed through.
+block-carry : (e : Engine) (ns fs : List Float) (c : ℕ) (near far : List Float) (n : ℕ) (adapt : Bool)
+    → blockOf (withCarry e ns fs c) near far n adapt ≡ withCarryAfter (blockOf e near far n adapt) ns fs 0
+unfolding blockOf runBlock
+block-carry e ns fs c near far n adapt = refl
+
+-- Nor to blocks in a row.
+blocks-carry : (k : ℕ) (e : Engine) (ns fs near far : List Float)
+    → blocksOf k (withCarry e ns fs 0) near far ≡ withCarryAfter (blocksOf k e near far) ns fs 0
+unfolding blocksOf
+blocks-carry zero e ns fs near far = refl
+blocks-carry (suc k) e ns fs near far =
+    let a = take 256 near in
+    let c = take 256 far in
+    let b = blockOn e a c in
+    ap (λ (r : Run). joined r (blocksOf k (r .engine) (drop 256 near) (drop 256 far))) (block-carry e ns fs 0 (cleanOf a) (cleanOf c) 256 true)
+    ∙ ap (joined (withCarryAfter b ns fs 0)) (blocks-carry k (b .engine) ns fs (drop 256 near) (drop 256 far))
+
+-- 256 pairs from an empty carry are a block of them, and the carry holds them after it.
 pub whole-block : (e : Engine) (near far : List Float) → Good e → e .state .carried ≡ 0 → length near ≡ 256 → length far ≡ 256
-    → pairsOf e near far ≡ blockOn e near far
+    → pairsOf e near far ≡ withCarryAfter (blockOn e near far) (cleanOf near) (cleanOf far) 0
 whole-block e near far g z n f =
     let s = e .state in
     fills-run e near far (good-wide e g) (omega arith) (omega arith) (omega arith)
@@ -142,6 +159,7 @@ whole-block e near far g z n f =
     (stored-all (s .«near_carry») (s .carried) (cleanOf near) z (length-map near finiteOrZero ∙ n ∙ sym (g .near)))
     (stored-all (s .«far_carry») (s .carried) (cleanOf far) z (length-map far finiteOrZero ∙ f ∙ sym (g .far)))
     (omega arith))
+    ∙ block-carry e (cleanOf near) (cleanOf far) 256 (cleanOf near) (cleanOf far) 256 true
 
 -- over the front of it
 stored-front : (l : List Float) (k : ℕ) (a : List Float) → k ≡ 0 → stored l k (cleanOf a) ≡ cleanOf a ++ drop (length a) l
@@ -149,58 +167,76 @@ stored-front l k a z =
     let p : 0 + length (cleanOf a) ≡ length a = omega (arith, length-map a finiteOrZero) in
     ap (λ (n : ℕ). stored l n (cleanOf a)) z ∙ ap (λ (n : ℕ). cleanOf a ++ drop n l) p
 
--- Fewer run no block and deliver nothing, and the carry holds them.
-pub rest-waits : (e : Engine) (near far : List Float) → Good e → e .state .carried ≡ 0 → length near ≡ length far → length near ≤ 255
-    → pairsOf e near far ≡ waitsOf (waiting e near far)
-rest-waits e near far g z l k =
+-- Fewer run no block and deliver nothing, and stand at the front of the carry.
+pub rest-waits : (e : Engine) (near far : List Float) (m : ℕ) → Good e → e .state .carried ≡ 0 → length near ≡ length far → length near ≡ m → m ≤ 255
+    → pairsOf e near far
+    ≡ waitsOf (withCarry e (cleanOf near ++ drop (length near) (e .state .«near_carry»)) (cleanOf far ++ drop (length far) (e .state .«far_carry»)) m)
+rest-waits e near far m g z l q k =
     let s = e .state in
     fills e near far (good-wide e g) l (omega arith)
     ∙ ap waitsOf
-    (same e _ _ _ _ (s .carried + length near) (length near) (stored-front (s .«near_carry») (s .carried) near z)
+    (same e _ _ _ _ (s .carried + length near) m (stored-front (s .«near_carry») (s .carried) near z)
     (stored-front (s .«far_carry») (s .carried) far z) (omega arith))
 
-blocks-then : (k : ℕ) (e : Engine) (near far : List Float) → Good e → e .state .carried ≡ 0 → length near ≡ length far
-    → 256 * k ≤ length near → length near ≤ 256 * k + 255 → pairsOf e near far ≡ blocksThen k e near far
-unfolding blocksOf
-blocks-then zero e near far g z l a b = rest-waits e near far g z l (omega arith)
-blocks-then (suc k) e near far g z l a b =
-    let n : length (take 256 near) ≡ 256 = length-take-le 256 near (omega arith) in
-    let f : length (take 256 far) ≡ 256 = length-take-le 256 far (omega arith) in
-    let w = whole-block e (take 256 near) (take 256 far) g z n f in
-    let r = blockOn e (take 256 near) (take 256 far) in
-    let g2 : Good (r .engine) = subst (λ (q : Run). Good (q .engine)) w (pairs-sound e (take 256 near) (take 256 far) g) in
-    let c = carries e (take 256 near) (take 256 far) (g .ranged) (n ∙ sym f) in
-    let z2 : r .engine .state .carried ≡ 0 = sym (ap (λ (q : Run). q .engine .state .carried) w) ∙ omega (arith, c, n, z) in
-    let dn = length-drop 256 near in
-    let df = length-drop 256 far in
+-- ---- a block more
+
+dropped-next : (k : ℕ) (stream : List Float) → drop (256 * k) (drop 256 stream) ≡ drop (256 * suc k) stream
+dropped-next k stream =
     let p : 256 + 256 * k ≡ 256 * suc k = omega arith in
-    let rest = blocks-then k (r .engine) (drop 256 near) (drop 256 far) g2 z2 (omega arith) (omega arith) (omega arith) in
-    let t = blocksOf k (r .engine) (drop 256 near) (drop 256 far) in
+    drop-drop (256 * k) 256 stream ∙ ap (λ (i : ℕ). drop i stream) p
+
+written-next : (k : ℕ) (l stream : List Float) → writtenTo k (cleanOf (take 256 stream)) (drop 256 stream) ≡ writtenTo (suc k) l stream
+unfolding writtenTo
+written-next zero l stream = refl
+written-next (suc k) l stream = ap (λ (q : List Float). cleanOf (take 256 q)) (dropped-next k stream)
+
+carry-next : (k : ℕ) (l stream : List Float) → carryOf k (cleanOf (take 256 stream)) (drop 256 stream) ≡ carryOf (suc k) l stream
+carry-next k l stream =
+    λ i. let rest = dropped-next k stream i in cleanOf rest ++ drop (length rest) (written-next k l stream i)
+
+blocks-then : (k m : ℕ) (e : Engine) (near far : List Float) → Good e → e .state .carried ≡ 0 → length near ≡ length far
+    → length near ≡ 256 * k + m → m ≤ 255
+    → pairsOf e near far ≡ withCarryAfter (blocksOf k e near far) (carryOf k (e .state .«near_carry») near) (carryOf k (e .state .«far_carry») far) m
+unfolding blocksOf writtenTo
+blocks-then zero m e near far g z l q b = rest-waits e near far m g z l (omega arith) b
+blocks-then (suc k) m e near far g z l q b =
+    let a = take 256 near in
+    let c = take 256 far in
+    let dn = drop 256 near in
+    let df = drop 256 far in
+    let n : length a ≡ 256 = length-take-le 256 near (omega arith) in
+    let f : length c ≡ 256 = length-take-le 256 far (omega arith) in
+    let w = whole-block e a c g z n f in
+    let r = blockOn e a c in
+    let d = withCarryAfter r (cleanOf a) (cleanOf c) 0 in
+    let g2 : Good (d .engine) = subst (λ (q : Run). Good (q .engine)) w (pairs-intact e a c g) in
+    let ln = length-drop 256 near in
+    let lf = length-drop 256 far in
+    let rest = blocks-then k m (d .engine) dn df g2 refl (omega arith) (omega arith) b in
+    let t = blocksOf k (r .engine) dn df in
     ap (λ (q : List Float). pairsOf e q far) (sym (take-append-drop 256 near))
-    ∙ ap (pairsOf e (take 256 near ++ drop 256 near)) (sym (take-append-drop 256 far))
-    ∙ cut e (take 256 near) (drop 256 near) (take 256 far) (drop 256 far) (n ∙ sym f)
-    ∙ ap (λ (q : Run). joined q (pairsOf (q .engine) (drop 256 near) (drop 256 far))) w
-    ∙ ap (joined r) rest
-    ∙ ap (λ (q : List Float). joined r (record { engine = waiting (t .engine) q (drop (256 * k) (drop 256 far)); samples = t .samples; last = t .last }))
-    (drop-drop (256 * k) 256 near ∙ ap (λ (i : ℕ). drop i near) p)
-    ∙ ap (λ (q : List Float). joined r (record { engine = waiting (t .engine) (drop (256 * suc k) near) q; samples = t .samples; last = t .last }))
-    (drop-drop (256 * k) 256 far ∙ ap (λ (i : ℕ). drop i far) p)
+    ∙ ap (pairsOf e (a ++ dn)) (sym (take-append-drop 256 far))
+    ∙ cut e a dn c df (n ∙ sym f)
+    ∙ ap (λ (q : Run). joined q (pairsOf (q .engine) dn df)) w
+    ∙ ap (joined d) rest
+    ∙ ap (λ (q : Run). joined d (withCarryAfter q (carryOf k (cleanOf a) dn) (carryOf k (cleanOf c) df) m)) (blocks-carry k (r .engine) (cleanOf a) (cleanOf c) dn df)
+    ∙ (λ i. withCarryAfter (joined r t) (carry-next k (e .state .«near_carry») near i) (carry-next k (e .state .«far_carry») far i) m)
 
 -- So from an empty carry a stream is its whole blocks of 256 pairs, one after the other: these are its samples and its last outcome, and
 -- the rest is left waiting.
 pub stream-blocks : (e : Engine) (near far : List Float) → Good e → e .state .carried ≡ 0 → length near ≡ length far → pairsOf e near far ≡ byBlocks e near far
-stream-blocks e near far g z l = blocks-then (length near / 256) e near far g z l (omega arith) (omega arith)
+stream-blocks e near far g z l = blocks-then (length near / 256) (length near % 256) e near far g z l (omega arith) (omega arith)
 
--- A flush of what is left waiting is a block of it and then 0.0 up to 256, that does not adapt and delivers as many.
-pub rest-flushed : (e : Engine) (near far : List Float) → length near ≡ length far → 1 ≤ length near
-    → flushedOf (waiting e near far) ≡ blockOf (waiting e near far) (restOf near) (restOf far) (length near) false
+-- A flush of pairs that wait at the front of a carry is a block of them and then 0.0 up to 256, that does not adapt and delivers as many.
+pub rest-flushed : (e : Engine) (near far u v : List Float) (m : ℕ) → length near ≡ m → length far ≡ m → 1 ≤ m
+    → let held = withCarry e (cleanOf near ++ u) (cleanOf far ++ v) m in
+    flushedOf held ≡ blockOf held (cleanOf near ++ replicate (256 - length near) zero32) (cleanOf far ++ replicate (256 - length far) zero32) m false
 unfolding flushedOf
-rest-flushed e near far l k =
-    let s = e .state in
-    let n = length near in
-    sym (pick-no _ _ _ (ne-eqb n 0 (λ z. omega arith))
+rest-flushed e near far u v m n f k =
+    sym (pick-no _ _ _ (ne-eqb m 0 (λ z. omega arith))
     (rw (
-      take-at (cleanOf near) (drop n (s .«near_carry»)) n (length-map near finiteOrZero),
-      take-at (cleanOf far) (drop (length far) (s .«far_carry»)) n (length-map far finiteOrZero ∙ sym l),
-      l,
+      take-at (cleanOf near) u m (length-map near finiteOrZero ∙ n),
+      take-at (cleanOf far) v m (length-map far finiteOrZero ∙ f),
+      n,
+      f,
     )))

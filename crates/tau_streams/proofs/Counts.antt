@@ -1,8 +1,7 @@
 -- What pairs and a flush keep of an engine, how many samples they deliver, and where a call puts them. Assumes nothing.
---     pair-sound, pairs-sound, flushed-sound     a pair, a run and a flush keep an engine in order,
---     pair-partitions, pairs-partitions, flushed-partitions     and its number of partitions
+--     pair-intact, pairs-intact, flushed-intact     a pair, a run and a flush keep an engine in order
 --     created-good, created-empty, reset-good, reset-empty     creation and reset leave an engine in order, and nothing carried
---     state-sound, sound-accepted     an engine with an accepted state is in order, and one in order has an accepted state
+--     state-intact, intact-accepted     an engine with an accepted state is in order, and one in order has an accepted state
 --     delivers, carries    N pairs over c carried ones deliver the whole blocks of c + N, and carry the rest
 --     flushed-delivers, flushed-empties, flushed-waits     a flush delivers what is carried and carries nothing; with nothing carried it does nothing
 --     process-delivers, flush-delivers     an accepted call answers 0 and delivers that many; they are the first places of its output
@@ -16,7 +15,7 @@ use native.Mathlib.Omega.{arith}
 use borrow.Author.Tests.{eqb-true, eqb-false, eq-eqb}
 use lib.Dec.{eqb}
 use lib.Ieee.{Float}
-use lib.ListN.{length, take, drop, length-append, length-drop, length-set, length-replicate}
+use lib.ListN.{length, drop, length-append, length-drop, length-set, length-replicate}
 use lib.Seq.{take-at, drop-at, length-take-le}
 use Rattle.laws.specs.Choice.{pick-yes, pick-if}
 use Rattle.tau_state.specs.Constants.{zero32, zero64}
@@ -25,30 +24,21 @@ use Rattle.tau_state.specs.declared.state.TauCanceller.{TauCanceller}
 use Rattle.tau_block.specs.Block.{runBlock}
 use Rattle.tau_block_laws.proofs.Kept.{ranges-kept, lengths-kept, length-block}
 use Rattle.tau.specs.Fresh.{freshMic, freshOf}
-use Rattle.tau_frame.specs.Pairs.{Engine, Run, waitsOf, carrying, blockOf, fillOf, pairOf, pairsOf, flushedOf}
-use Rattle.tau.specs.Calls.{createRefusal, Called, begunOf, createOf, resetOf, refusedOf, servedOf, processOf, flushOf}
-use Rattle.tau_frame.specs.Pairs.{deliversOf}
-use Rattle.tau_streams.specs.Stream.{Sound, Good, begunBy}
+use Rattle.tau_frame.specs.Pairs.{Engine, Run, waitsOf, carrying, emptied, blockOf, fillOf, pairOf, pairsOf, flushedOf, deliversOf}
+use Rattle.tau.specs.Calls.{createRefusal, begunOf, createOf, resetOf, refusedOf, servedOf, processOf, flushOf}
+use Rattle.tau_streams.specs.Stream.{Intact, Good, begunBy, withCarry, Delivery}
 use Rattle.tau.specs.Calls.{stateNumber, processNumber, flushNumber}
 use Rattle.tau.proofs.Accepted.{accepted-state, state-accepted, accepted-pairs, accepted-flush, accepted-settings, create-began, reset-began, process-ran, flush-ran}
 
 -- ---- a block
-
--- the engine with another carry
-abbrev withCarry : Engine → List Float → List Float → ℕ → Engine
-withCarry e ns fs c = record { state = carrying (e .state) ns fs c; shadow = e .shadow; output = e .output; spectra = e .spectra }
-
--- the engine that a block is run on: nothing is carried
-abbrev emptied : Engine → Engine
-emptied e = withCarry e (e .state .«near_carry») (e .state .«far_carry») 0
 
 -- a carry of at most 255 pairs keeps it in order
 carry-ranged : (s : TauCanceller) (ns fs : List Float) (c : ℕ) → c ≤ 255 → Ranged s → Ranged (carrying s ns fs c)
 carry-ranged s ns fs c k h =
     record { some = h .some; most = h .most; inring = h .inring; waiting = k; streak = h .streak; count = h .count }
 
-carry-sound : {n f : ℕ} (e : Engine) (ns fs : List Float) (c : ℕ) → c ≤ 255 → length ns ≡ n → length fs ≡ f → Sound n f e → Sound n f (withCarry e ns fs c)
-carry-sound e ns fs c k a b h =
+carry-intact : {n f : ℕ} (e : Engine) (ns fs : List Float) (c : ℕ) → c ≤ 255 → length ns ≡ n → length fs ≡ f → Intact n f e → Intact n f (withCarry e ns fs c)
+carry-intact e ns fs c k a b h =
     record {
       ranged = carry-ranged (e .state) ns fs c k (h .ranged);
       shadow = h .shadow;
@@ -80,13 +70,12 @@ module _ (e : Engine) (near far : List Float) (n : ℕ) (adapt : Bool) where
   -- and keeps the engine in order.
   block-ranged : Ranged (emptied e .state) → Ranged (blockOf e near far n adapt .engine .state)
   unfolding blockOf
-  block-ranged h = ranges-kept (emptied e .state) near far n adapt (e .shadow) (e .output) (e .spectra) h
+  block-ranged h = ranges-kept (emptied e) far (record { near = near; valid = n; adapt = adapt }) h
 
-  block-sound : {k l : ℕ} → Sound k l (emptied e) → Sound k l (blockOf e near far n adapt .engine)
+  block-intact : {k l : ℕ} → Intact k l (emptied e) → Intact k l (blockOf e near far n adapt .engine)
   unfolding blockOf
-  block-sound h =
-      let s = emptied e .state in
-      let z = lengths-kept s near far n adapt (e .shadow) (e .output) (e .spectra) (h .ranged .inring)
+  block-intact h =
+      let z = lengths-kept (emptied e) far (record { near = near; valid = n; adapt = adapt }) (h .ranged .inring)
       (record { shadow = h .shadow; output = h .output; spectra = h .spectra }) in
       let p = ap (λ (k : ℕ). 514 * k) (sym block-partitions) in
       record {
@@ -102,57 +91,38 @@ module _ (e : Engine) (near far : List Float) (n : ℕ) (adapt : Bool) where
   pub block-delivers : n ≤ 256 → length (blockOf e near far n adapt .samples) ≡ n
   unfolding blockOf
   block-delivers k =
-      let d = length-block (emptied e .state) near far n adapt (e .shadow) (e .output) (e .spectra) in
+      let d = length-block (emptied e) far (record { near = near; valid = n; adapt = adapt }) in
       length-take-le n _ (omega arith)
 
 -- ---- what is kept
 
 -- the carry after a pair, c pairs in it
-fill-sound : {n f : ℕ} (e : Engine) (x y : Float) (c : ℕ) → c ≤ 255 → Sound n f e
-    → Sound n f (withCarry e (fillOf e x y .state .«near_carry») (fillOf e x y .state .«far_carry») c)
-fill-sound e x y c k h =
-    carry-sound e _ _ c k (length-set (e .state .«near_carry») _ _ ∙ h .near) (length-set (e .state .«far_carry») _ _ ∙ h .far) h
+fill-intact : {n f : ℕ} (e : Engine) (x y : Float) (c : ℕ) → c ≤ 255 → Intact n f e
+    → Intact n f (withCarry e (fillOf e x y .state .«near_carry») (fillOf e x y .state .«far_carry») c)
+fill-intact e x y c k h =
+    carry-intact e _ _ c k (length-set (e .state .«near_carry») _ _ ∙ h .near) (length-set (e .state .«far_carry») _ _ ∙ h .far) h
 
 -- A pair keeps an engine in order,
-pub pair-sound : {n f : ℕ} (e : Engine) (x y : Float) → Sound n f e → Sound n f (pairOf e x y .engine)
+pub pair-intact : {n f : ℕ} (e : Engine) (x y : Float) → Intact n f e → Intact n f (pairOf e x y .engine)
 unfolding pairOf
-pair-sound {n} {f} e x y h =
-    pick-if (λ (r : Run). Sound n f (r .engine)) (eqb (e .state .carried) 255)
-    (λ _. block-sound (fillOf e x y) _ _ 256 true (fill-sound e x y 0 (omega arith) h))
-    (λ t. let d = eqb-false (e .state .carried) 255 t in fill-sound e x y (e .state .carried + 1) (omega (arith, h .ranged .waiting, d)) h)
+pair-intact {n} {f} e x y h =
+    pick-if (λ (r : Run). Intact n f (r .engine)) (eqb (e .state .carried) 255)
+    (λ _. block-intact (fillOf e x y) _ _ 256 true (fill-intact e x y 0 (omega arith) h))
+    (λ t. let d = eqb-false (e .state .carried) 255 t in fill-intact e x y (e .state .carried + 1) (omega (arith, h .ranged .waiting, d)) h)
 
 -- so does a run,
-pub pairs-sound : {n f : ℕ} (e : Engine) (near far : List Float) → Sound n f e → Sound n f (pairsOf e near far .engine)
+pub pairs-intact : {n f : ℕ} (e : Engine) (near far : List Float) → Intact n f e → Intact n f (pairsOf e near far .engine)
 unfolding pairsOf
-pairs-sound e [] far h = h
-pairs-sound e (x ∷ near) [] h = h
-pairs-sound e (x ∷ near) (y ∷ far) h = pairs-sound (pairOf e x y .engine) near far (pair-sound e x y h)
+pairs-intact e [] far h = h
+pairs-intact e (x ∷ near) [] h = h
+pairs-intact e (x ∷ near) (y ∷ far) h = pairs-intact (pairOf e x y .engine) near far (pair-intact e x y h)
 
 -- and so does a flush.
-pub flushed-sound : {n f : ℕ} (e : Engine) → Sound n f e → Sound n f (flushedOf e .engine)
+pub flushed-intact : {n f : ℕ} (e : Engine) → Intact n f e → Intact n f (flushedOf e .engine)
 unfolding flushedOf
-flushed-sound {n} {f} e h =
-    pick-if (λ (r : Run). Sound n f (r .engine)) (eqb (e .state .carried) 0) (λ _. h)
-    (λ _. block-sound e _ _ (e .state .carried) false (carry-sound e _ _ 0 (omega arith) (h .near) (h .far) h))
-
--- They keep the number of partitions.
-pub pair-partitions : (e : Engine) (x y : Float) → pairOf e x y .engine .state .partitions ≡ e .state .partitions
-unfolding pairOf
-pair-partitions e x y =
-    pick-if (λ (r : Run). r .engine .state .partitions ≡ e .state .partitions) (eqb (e .state .carried) 255)
-    (λ _. block-partitions (fillOf e x y) _ _ 256 true) (λ _. refl)
-
-pub pairs-partitions : (e : Engine) (near far : List Float) → pairsOf e near far .engine .state .partitions ≡ e .state .partitions
-unfolding pairsOf
-pairs-partitions e [] far = refl
-pairs-partitions e (x ∷ near) [] = refl
-pairs-partitions e (x ∷ near) (y ∷ far) = pairs-partitions (pairOf e x y .engine) near far ∙ pair-partitions e x y
-
-pub flushed-partitions : (e : Engine) → flushedOf e .engine .state .partitions ≡ e .state .partitions
-unfolding flushedOf
-flushed-partitions e =
-    pick-if (λ (r : Run). r .engine .state .partitions ≡ e .state .partitions) (eqb (e .state .carried) 0) (λ _. refl)
-    (λ _. block-partitions e _ _ (e .state .carried) false)
+flushed-intact {n} {f} e h =
+    pick-if (λ (r : Run). Intact n f (r .engine)) (eqb (e .state .carried) 0) (λ _. h)
+    (λ _. block-intact e _ _ (e .state .carried) false (carry-intact e _ _ 0 (omega arith) (h .near) (h .far) h))
 
 -- ---- creation and reset
 
@@ -194,8 +164,8 @@ pub reset-empty : (e : Engine) → stateNumber e ≡ 0 → resetOf e .answer .st
 reset-empty e h = let s = e .state in rw (reset-began e h) (begun-empty (s .partitions) (s .suppress) (s .mic .transfers) (s .mic .«divergence_resets»))
 
 -- An engine whose state is accepted is in order, with the carries that it has,
-pub state-sound : (e : Engine) → stateNumber e ≡ 0 → Sound (length (e .state .«near_carry»)) (length (e .state .«far_carry»)) e
-state-sound e h =
+pub state-intact : (e : Engine) → stateNumber e ≡ 0 → Intact (length (e .state .«near_carry»)) (length (e .state .«far_carry»)) e
+state-intact e h =
     let a = accepted-state (e .state) (length (e .shadow)) (length (e .output)) (length (e .spectra)) h in
     record {
       ranged = a .ranged;
@@ -207,8 +177,8 @@ state-sound e h =
     }
 
 -- and one in order is accepted.
-pub sound-accepted : {n f : ℕ} (e : Engine) → Sound n f e → stateNumber e ≡ 0
-sound-accepted e h =
+pub intact-accepted : {n f : ℕ} (e : Engine) → Intact n f e → stateNumber e ≡ 0
+intact-accepted e h =
     state-accepted (e .state) (length (e .shadow)) (length (e .output)) (length (e .spectra))
     (record { ranged = h .ranged; sizes = record { shadow = h .shadow; output = h .output; spectra = h .spectra } })
 
@@ -282,15 +252,7 @@ flushed-waits e h = sym (pick-yes _ _ _ (eq-eqb (e .state .carried) 0 h) refl)
 
 -- ---- what a call delivers
 
--- An accepted call, of which r is the run and n its number of samples: it answers 0 and delivers n. These are the first places of the
--- output buffer, which keeps its length, and the rest of it is as it was.
-pub record Delivery (r : Run) (n : ℕ) (out : List Float) (c : Called) : Type 0 where
-  pub accepted : c .answer .refusal ≡ 0
-  pub count : c .answer .delivered ≡ n
-  pub long : length (c .out) ≡ length out
-  pub samples : take n (c .out) ≡ r .samples
-  pub rest : drop n (c .out) ≡ drop n out
-
+-- the samples over the front of the output buffer
 served-delivery : (r : Run) (n : ℕ) (out : List Float) → length (r .samples) ≡ n → n ≤ length out → Delivery r n out (servedOf r out)
 served-delivery r n out d room =
     let s = r .samples in

@@ -1,7 +1,5 @@
 -- How a stream is cut into calls does not matter. Assumes nothing.
 --     cut                  a stream cut in two: the engine, the samples and the last outcome are those of the two runs, one after the other
---     parts-join           a stream cut anyhow: the same of all its parts
---     cuts-agree           so two cuts of one stream agree
 --     served-ran, call-ran     an accepted call leaves, delivers and reports what the run over its pairs does
 --     row-accepted         a row of calls on an engine in order, each with as many near as far samples, at most 4,096, and room for what
 --                          it delivers, is accepted
@@ -11,7 +9,7 @@
 --     cut-call             an accepted call cut anyhow into calls with room: they are accepted, and leave, deliver and last report what it does
 use mathlib.Core.Path.{_≡_, refl, sym, ap, _∙_, subst}
 use mathlib.Core.List.{List, [], _∷_, _++_, append-assoc, append-nil}
-use Prim.Native.Nat.{ℕ, _+_, _*_, _/_, _%_, _≤_}
+use Prim.Native.Nat.{ℕ, _+_, _*_, _/_, _%_}
 use native.Mathlib.Omega.{arith}
 use lib.Ieee.{Float}
 use lib.ListN.{length, drop, length-append}
@@ -21,11 +19,13 @@ use Rattle.tau_state.specs.Ranges.{Ranged}
 use Rattle.tau_state.specs.Report.{reportOf}
 use Rattle.tau_frame.specs.Pairs.{Engine, Run, waitsOf, pairOf, lastOf, pairsOf}
 use Rattle.tau.specs.Calls.{Called, servedOf, processOf}
-use Rattle.tau_streams.specs.Stream.{Sound, leftBy, ranBy, Part, Level, Roomy, nearOf, farOf, joined, thenOf, partsOf, rowOf, AllAccepted}
+use Rattle.streams.specs.Parts.{Part, Level, Fair, allNear, allFar}
+use Rattle.streams.proofs.Parts.{parts-fair}
+use Rattle.tau_streams.specs.Stream.{Intact, leftBy, ranBy, Roomy, joined, thenOf, rowOf, AllAccepted}
 use Rattle.tau.specs.Calls.{processNumber}
 use Rattle.tau_frame.proofs.Later.{last-first, last-assoc}
 use Rattle.tau.proofs.Accepted.{Process, state-accepted, accepted-pairs, process-accepted, process-answers, process-ran}
-use Rattle.tau_streams.proofs.Counts.{pairs-sound, state-sound, delivers, carries}
+use Rattle.tau_streams.proofs.Counts.{pairs-intact, state-intact, delivers, carries}
 
 -- ---- over the pairs
 
@@ -51,19 +51,6 @@ cut e (x ∷ a) b (y ∷ c) d h =
     let first = pairsOf (t .engine) a c in
     ap (joined t) (cut (t .engine) a b c d (omega arith)) ∙ joined-assoc t first (pairsOf (first .engine) b d)
 
--- A stream cut anyhow: the parts run one after the other give what the whole stream gives.
-pub parts-join : (e : Engine) (ps : List Part) → All Level ps → partsOf e ps ≡ pairsOf e (nearOf ps) (farOf ps)
-unfolding partsOf nearOf farOf pairsOf
-parts-join e [] h = refl
-parts-join e (p ∷ ps) h =
-    let run = pairsOf e (p .near) (p .far) in
-    ap (joined run) (parts-join (run .engine) ps (record { each = h .each .1 })) ∙ sym (cut e (p .near) (nearOf ps) (p .far) (farOf ps) (h .each .0 .level))
-
--- Two cuts of one stream agree.
-pub cuts-agree : (e : Engine) (ps qs : List Part) → All Level ps → All Level qs → nearOf ps ≡ nearOf qs → farOf ps ≡ farOf qs → partsOf e ps ≡ partsOf e qs
-cuts-agree e ps qs hp hq n f =
-    parts-join e ps hp ∙ ap (λ (l : List Float). pairsOf e l (farOf ps)) n ∙ ap (pairsOf e (nearOf qs)) f ∙ sym (parts-join e qs hq)
-
 -- ---- rows of calls
 
 -- what a call serves is the run
@@ -75,14 +62,9 @@ served-ran r out = λ i. record { engine = r .engine; samples = take-append-seam
 pub call-ran : (e : Engine) (near far out : List Float) → processNumber e near far out ≡ 0 → ranBy (processOf e near far out) ≡ pairsOf e near far
 call-ran e near far out h = ap ranBy (process-ran e near far out h) ∙ served-ran (pairsOf e near far) out
 
--- as many near as far samples, at most 4,096
-pub record Fair (p : Part) : Type 0 where
-  pub level : length (p .near) ≡ length (p .far)
-  pub few : length (p .near) ≤ 4096
-
 -- A row of calls is accepted where its first engine is in order, each part has as many near as far samples, at most 4,096, and each has
 -- room for what it delivers.
-pub row-accepted : {n f : ℕ} (e : Engine) (ps : List Part) → Sound n f e → All Fair ps → Roomy (e .state .carried) ps → AllAccepted e ps
+pub row-accepted : {n f : ℕ} (e : Engine) (ps : List Part) → Intact n f e → All Fair ps → Roomy (e .state .carried) ps → AllAccepted e ps
 unfolding rowOf
 row-accepted e [] s h r = all-none
 row-accepted {n} {f} e (p ∷ ps) s h r =
@@ -96,7 +78,7 @@ row-accepted {n} {f} e (p ∷ ps) s h r =
     }) in
     let c = carries e (p .near) (p .far) (s .ranged) (a .level) in
     let t : Roomy (run .engine .state .carried) ps = subst (λ (k : ℕ). Roomy k ps) (sym c) (record { rooms = r .rooms .1 }) in
-    let rest = row-accepted (run .engine) ps (pairs-sound e (p .near) (p .far) s) (record { each = h .each .1 }) t in
+    let rest = row-accepted (run .engine) ps (pairs-intact e (p .near) (p .far) s) (record { each = h .each .1 }) t in
     all-cons (process-answers e (p .near) (p .far) (p .out) ∙ z) (subst (λ (r : Run). AllAccepted (r .engine) ps) (sym (call-ran e (p .near) (p .far) (p .out) z)) rest)
 
 -- what the first call of an accepted row could count on
@@ -106,8 +88,8 @@ first-process e p z = accepted-pairs (e .state) _ _ _ _ _ _ z
 
 -- A row of accepted calls leaves the state and the buffers, delivers the samples, and last reports the outcome, of the run over the whole
 -- stream.
-pub row-runs : (e : Engine) (ps : List Part) → AllAccepted e ps → rowOf e ps .run ≡ pairsOf e (nearOf ps) (farOf ps)
-unfolding rowOf nearOf farOf pairsOf
+pub row-runs : (e : Engine) (ps : List Part) → AllAccepted e ps → rowOf e ps .run ≡ pairsOf e (allNear ps) (allFar ps)
+unfolding rowOf allNear allFar pairsOf
 row-runs e [] h = refl
 row-runs e (p ∷ ps) h =
     let z = sym (process-answers e (p .near) (p .far) (p .out)) ∙ h .each .0 in
@@ -116,44 +98,36 @@ row-runs e (p ∷ ps) h =
     let rest = row-runs (run .engine) ps (subst (λ (r : Run). AllAccepted (r .engine) ps) k (record { each = h .each .1 })) in
     ap (λ (r : Run). joined r (rowOf (r .engine) ps .run)) k
     ∙ ap (joined run) rest
-    ∙ sym (cut e (p .near) (nearOf ps) (p .far) (farOf ps) (first-process e p z .pairs .level))
+    ∙ sym (cut e (p .near) (allNear ps) (p .far) (allFar ps) (first-process e p z .pairs .level))
 
 -- accepted calls are given as many near as far samples
-pub row-level : (e : Engine) (ps : List Part) → AllAccepted e ps → length (nearOf ps) ≡ length (farOf ps)
-unfolding rowOf nearOf farOf
+pub row-level : (e : Engine) (ps : List Part) → AllAccepted e ps → length (allNear ps) ≡ length (allFar ps)
+unfolding rowOf allNear allFar
 row-level e [] h = refl
 row-level e (p ∷ ps) h =
     let z = sym (process-answers e (p .near) (p .far) (p .out)) ∙ h .each .0 in
     let one = first-process e p z .pairs .level in
     let rest = row-level (leftBy (processOf e (p .near) (p .far) (p .out))) ps (record { each = h .each .1 }) in
-    omega (arith, length-append (p .near) (nearOf ps), length-append (p .far) (farOf ps))
+    omega (arith, length-append (p .near) (allNear ps), length-append (p .far) (allFar ps))
 
 -- So from a state in range they have delivered the whole blocks of what was carried at first and all pairs since,
 pub row-delivers : (e : Engine) (ps : List Part) → Ranged (e .state) → AllAccepted e ps
-    → length (rowOf e ps .run .samples) ≡ (e .state .carried + length (nearOf ps)) / 256 * 256
-row-delivers e ps s h = ap (λ (r : Run). length (r .samples)) (row-runs e ps h) ∙ delivers e (nearOf ps) (farOf ps) s (row-level e ps h)
+    → length (rowOf e ps .run .samples) ≡ (e .state .carried + length (allNear ps)) / 256 * 256
+row-delivers e ps s h = ap (λ (r : Run). length (r .samples)) (row-runs e ps h) ∙ delivers e (allNear ps) (allFar ps) s (row-level e ps h)
 
 -- and the rest is carried.
 pub row-carries : (e : Engine) (ps : List Part) → Ranged (e .state) → AllAccepted e ps
-    → rowOf e ps .run .engine .state .carried ≡ (e .state .carried + length (nearOf ps)) % 256
-row-carries e ps s h = ap (λ (r : Run). r .engine .state .carried) (row-runs e ps h) ∙ carries e (nearOf ps) (farOf ps) s (row-level e ps h)
+    → rowOf e ps .run .engine .state .carried ≡ (e .state .carried + length (allNear ps)) % 256
+row-carries e ps s h = ap (λ (r : Run). r .engine .state .carried) (row-runs e ps h) ∙ carries e (allNear ps) (allFar ps) s (row-level e ps h)
 
 -- Two rows of accepted calls over one stream agree.
-pub rows-agree : (e : Engine) (ps qs : List Part) → AllAccepted e ps → AllAccepted e qs → nearOf ps ≡ nearOf qs → farOf ps ≡ farOf qs
+pub rows-agree : (e : Engine) (ps qs : List Part) → AllAccepted e ps → AllAccepted e qs → allNear ps ≡ allNear qs → allFar ps ≡ allFar qs
     → rowOf e ps .run ≡ rowOf e qs .run
 rows-agree e ps qs hp hq n f =
-    let k : pairsOf e (nearOf ps) (farOf ps) ≡ pairsOf e (nearOf qs) (farOf qs) = rw (n, f) in
+    let k : pairsOf e (allNear ps) (allFar ps) ≡ pairsOf e (allNear qs) (allFar qs) = rw (n, f) in
     row-runs e ps hp ∙ k ∙ sym (row-runs e qs hq)
 
 -- ---- a call cut into calls
-
--- no part is longer than the whole
-parts-fair : (ps : List Part) → length (nearOf ps) ≤ 4096 → All Level ps → All Fair ps
-unfolding nearOf
-parts-fair [] h l = all-none
-parts-fair (p ∷ ps) h l =
-    let k = length-append (p .near) (nearOf ps) in
-    all-cons (record { level = l .each .0 .level; few = omega arith }) (parts-fair ps (omega arith) (record { each = l .each .1 }))
 
 -- An accepted call cut anyhow into calls, each with as many near as far samples and with room for what it delivers: they are all
 -- accepted, and what they leave, deliver and last report together is what the uncut call leaves, delivers and reports.
@@ -162,10 +136,10 @@ pub record SameCall (e : Engine) (ps : List Part) (call : Called) : Type 0 where
   pub run : rowOf e ps .run ≡ ranBy call
 
 pub cut-call : (e : Engine) (ps : List Part) (out : List Float) → All Level ps → Roomy (e .state .carried) ps
-    → processOf e (nearOf ps) (farOf ps) out .answer .refusal ≡ 0 → SameCall e ps (processOf e (nearOf ps) (farOf ps) out)
+    → processOf e (allNear ps) (allFar ps) out .answer .refusal ≡ 0 → SameCall e ps (processOf e (allNear ps) (allFar ps) out)
 cut-call e ps out l r h =
-    let z = sym (process-answers e (nearOf ps) (farOf ps) out) ∙ h in
+    let z = sym (process-answers e (allNear ps) (allFar ps) out) ∙ h in
     let a = accepted-pairs (e .state) (length (e .shadow)) (length (e .output)) (length (e .spectra)) _ _ _ z in
-    let s = state-sound e (state-accepted (e .state) _ _ _ (a .state)) in
+    let s = state-intact e (state-accepted (e .state) _ _ _ (a .state)) in
     let t = row-accepted e ps s (parts-fair ps (a .pairs .few) l) r in
-    record { accepted = t; run = row-runs e ps t ∙ sym (call-ran e (nearOf ps) (farOf ps) out z) }
+    record { accepted = t; run = row-runs e ps t ∙ sym (call-ran e (allNear ps) (allFar ps) out z) }

@@ -5,7 +5,7 @@ use Rattle.tau_frame.specs.Pairs.{Engine, pairsOf}
 use Rattle.tau_streams.specs.Stream.{Good, rowOf}
 use Rattle.tau_streams.specs.Marked.{Created, M12, M12Calls}
 use Rattle.tau.proofs.Accepted.{create-answers, flush-answers}
-use Rattle.tau_streams.proofs.Counts.{pairs-sound, created-good, created-empty, delivers, carries, flushed-delivers, flush-delivers}
+use Rattle.tau_streams.proofs.Counts.{pairs-intact, created-good, created-empty, delivers, carries, flushed-delivers, flush-delivers}
 use Rattle.tau_streams.proofs.Cut.{row-delivers, row-carries}
 
 created-is : (e : Engine) → Created e → Good e × (e .state .carried ≡ 0)
@@ -20,7 +20,7 @@ m12 e near far c l =
     let z = g .1 in
     let d = delivers e near far (g .0 .ranged) l in
     let k = carries e near far (g .0 .ranged) l in
-    let f = flushed-delivers (pairsOf e near far .engine) (pairs-sound e near far (g .0) .ranged) in
+    let f = flushed-delivers (pairsOf e near far .engine) (pairs-intact e near far (g .0) .ranged) in
     (λ n. omega (arith, n, d, z), λ n. omega (arith, n, d, z), λ n. (omega (arith, n, d, z), omega (arith, n, k, f, z)))
 
 pub m12-calls : M12Calls

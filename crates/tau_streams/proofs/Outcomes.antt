@@ -3,7 +3,9 @@
 --     outcome-none, outcome-some     after pairs that fill no block it says that none ran, and else it does not
 --     flushed-some         nor does it after a flush of what is carried (with nothing carried it does: flushed-waits)
 --     process-none, process-some, flush-none, flush-some     the same of the reports of accepted calls
-use mathlib.Core.Path.{_≡_, refl, sym, ap, _∙_}
+--     process-reports, flush-reports     the rest of a report is read from the state
+--     process-leak, flush-leak     the leak of every report is above 0 and at most 0.75
+use mathlib.Core.Path.{_≡_, refl, sym, ap, _∙_, subst}
 use mathlib.Core.Bool.{Bool, true, false}
 use mathlib.Core.List.{List, [], _∷_}
 use Prim.Native.Nat.{ℕ, _+_, _≤_}
@@ -13,12 +15,14 @@ use lib.Dec.{eqb}
 use lib.Ieee.{Float}
 use lib.ListN.{length, length-append}
 use Rattle.laws.specs.Choice.{pick-if}
+use Rattle.tau_steps.specs.Bounds.{Leak}
 use Rattle.tau_state.specs.Ranges.{Ranged}
+use Rattle.tau_state.specs.Report.{leakIn, reportOf}
 use Rattle.tau_state.specs.declared.report.Outcome.{Outcome}
 use Rattle.tau_state.specs.declared.report.Outcome.the-variants.{NotRun, NoMove, Rescue, Move}
-use Rattle.tau_block_laws.proofs.Ran.{ran-outcome}
+use Rattle.tau_block_laws.proofs.Ran.{ran-bounded, ran-outcome}
 use Rattle.tau_frame.specs.Pairs.{Engine, Run, blockOf, fillOf, pairOf, lastOf, pairsOf, flushedOf}
-use Rattle.tau.specs.Calls.{processOf, flushOf}
+use Rattle.tau.specs.Calls.{Called, processOf, flushOf}
 use Rattle.tau_streams.specs.Stream.{ranBy, joined}
 use Rattle.tau.specs.Calls.{processNumber, flushNumber}
 use Rattle.tau.proofs.Accepted.{accepted-pairs, flush-ran}
@@ -44,7 +48,7 @@ move leak = record { told = λ e. let z : _≡_ {A = ℕ} 0 1 = cc in absurd (om
 -- A block's outcome is never that none ran.
 pub block-outcome : (e : Engine) (near far : List Float) (n : ℕ) (adapt : Bool) → blockOf e near far n adapt .last ≡ NotRun → ⊥
 unfolding blockOf
-block-outcome e near far n adapt = ran-outcome Told no-move rescue move _ near far n adapt _ _ _ .told
+block-outcome e near far n adapt = ran-outcome Told no-move rescue move _ far _ .told
 
 -- ---- a run
 
@@ -131,3 +135,74 @@ module _ (e : Engine) (out : List Float) (h : flushNumber e out ≡ 0) where
 
   pub flush-some : 1 ≤ e .state .carried → flushOf e out .answer .report .outcome ≡ NotRun → ⊥
   flush-some k z = flushed-some e k (sym flush-reported ∙ z)
+
+-- The rest of a report is read from the state that is answered.
+pub process-reports : (e : Engine) (near far out : List Float)
+    → let a = processOf e near far out .answer in
+    a .report ≡ reportOf (a .state .mic) (a .report .outcome)
+unfolding processOf reportOf
+process-reports e near far out =
+    pick-if (λ (c : Called). c .answer .report ≡ reportOf (c .answer .state .mic) (c .answer .report .outcome)) _ (λ _. refl) (λ _. refl)
+
+pub flush-reports : (e : Engine) (out : List Float)
+    → let a = flushOf e out .answer in
+    a .report ≡ reportOf (a .state .mic) (a .report .outcome)
+unfolding flushOf reportOf
+flush-reports e out =
+    pick-if (λ (c : Called). c .answer .report ≡ reportOf (c .answer .state .mic) (c .answer .report .outcome)) _ (λ _. refl) (λ _. refl)
+
+-- ---- the leak in every report
+
+-- a move has a leak in its bounds
+record Bounded (o : Outcome) : Type 0 where
+  bounded : (leak : Float) → o ≡ Move leak → Leak leak
+
+not-run-bounded : Bounded NotRun
+not-run-bounded = record { bounded = λ leak e. let z : _≡_ {A = ℕ} 0 1 = cc in absurd (omega arith) }
+
+no-move-bounded : Bounded NoMove
+no-move-bounded = record { bounded = λ leak e. let z : _≡_ {A = ℕ} 0 1 = cc in absurd (omega arith) }
+
+rescue-bounded : Bounded Rescue
+rescue-bounded = record { bounded = λ leak e. let z : _≡_ {A = ℕ} 0 1 = cc in absurd (omega arith) }
+
+move-bounded : (leak : Float) → Leak leak → Bounded (Move leak)
+unfolding leakIn
+move-bounded leak h = record { bounded = λ l e. subst Leak (ap leakIn e) h }
+
+block-bounded : (e : Engine) (near far : List Float) (n : ℕ) (adapt : Bool) → Bounded (blockOf e near far n adapt .last)
+unfolding blockOf
+block-bounded e near far n adapt = ran-bounded Bounded no-move-bounded rescue-bounded move-bounded _ far _
+
+last-bounded : (a b : Outcome) → Bounded a → Bounded b → Bounded (lastOf a b)
+unfolding lastOf
+last-bounded a NotRun p q = p
+last-bounded a NoMove p q = q
+last-bounded a Rescue p q = q
+last-bounded a (Move leak) p q = q
+
+pair-bounded : (e : Engine) (x y : Float) → Bounded (pairOf e x y .last)
+unfolding pairOf
+pair-bounded e x y =
+    pick-if (λ (r : Run). Bounded (r .last)) (eqb (e .state .carried) 255) (λ _. block-bounded (fillOf e x y) _ _ 256 true) (λ _. not-run-bounded)
+
+pairs-bounded : (e : Engine) (near far : List Float) → Bounded (pairsOf e near far .last)
+unfolding pairsOf
+pairs-bounded e [] far = not-run-bounded
+pairs-bounded e (x ∷ near) [] = not-run-bounded
+pairs-bounded e (x ∷ near) (y ∷ far) = last-bounded _ _ (pair-bounded e x y) (pairs-bounded (pairOf e x y .engine) near far)
+
+flushed-bounded : (e : Engine) → Bounded (flushedOf e .last)
+unfolding flushedOf
+flushed-bounded e =
+    pick-if (λ (r : Run). Bounded (r .last)) (eqb (e .state .carried) 0) (λ _. not-run-bounded) (λ _. block-bounded e _ _ (e .state .carried) false)
+
+-- The leak that a call reports is above 0 and at most 0.75, whatever the state was.
+pub process-leak : (e : Engine) (near far out : List Float) (leak : Float) → processOf e near far out .answer .report .outcome ≡ Move leak → Leak leak
+unfolding processOf reportOf
+process-leak e near far out =
+    pick-if (λ (c : Called). Bounded (c .answer .report .outcome)) _ (λ _. pairs-bounded e near far) (λ _. not-run-bounded) .bounded
+
+pub flush-leak : (e : Engine) (out : List Float) (leak : Float) → flushOf e out .answer .report .outcome ≡ Move leak → Leak leak
+unfolding flushOf reportOf
+flush-leak e out = pick-if (λ (c : Called). Bounded (c .answer .report .outcome)) _ (λ _. flushed-bounded e) (λ _. not-run-bounded) .bounded

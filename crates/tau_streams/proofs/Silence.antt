@@ -1,5 +1,4 @@
 -- While the far end makes no sound, near is delivered as it is, bit for bit: -0.0 as -0.0, and what is not finite as 0.0. Assumes nothing.
---     still-zero, still-minus, still-nan, still-inf, minus-read     which far samples are no sound, and that a near -0.0 stays -0.0
 --     begins-hushed        creation and reset, accepted, leave an engine that has heard no far sound, and nothing waits
 --     pairs-passed         pairs with still far samples: what is delivered, and then what waits, is what waited, and then near
 --     flush-passed         a flush delivers exactly what waits, and nothing waits after it
@@ -8,21 +7,21 @@
 --                          stream is cut and flushed; after a last flush the delivered samples are near
 --     three-samples        as of near 1.0, -0.0, NaN with far 0.0 three times
 --     refused-aside, singer-among     refused calls among them change nothing
---     pairs-stay, calls-stay     what was delivered stays delivered, whatever follows
---     passage, begun-passage, row-passage     a stream whose first pairs have still far samples: every whole block of these is delivered as
---                          near, whatever the pairs behind them are, and however the stream is cut into accepted calls
+--     passage              pairs of which the first have still far samples: every whole block of these is delivered as near, whatever the
+--                          pairs behind them are
 --     singer-first         the same with flushes among the calls before the first far sound, and any calls whatever behind it
+--     singer-places, singer-flushed, first-places     these with refused calls of any kind among the others, and place by place
 use mathlib.Core.Path.{_≡_, refl, sym, ap, _∙_, subst}
 use mathlib.Core.Bool.{Bool, true, false}
 use mathlib.Core.List.{List, [], _∷_, _++_, append-assoc, append-nil, map-append}
-use Prim.Native.Nat.{ℕ, _+_, _-_, _*_, _%_, _≤_}
+use Prim.Native.Nat.{ℕ, _+_, _-_, _%_, _≤_, _<_}
 use native.Mathlib.Omega.{arith}
 use native.Mathlib.Numerals.{add-one}
 use borrow.Author.Tests.{eqb-true, eqb-false}
 use lib.Dec.{eqb}
-use lib.Ieee.{Float, nan, inf, binary32, fits, eq, ofBits}
-use lib.ListN.{length, set, take, drop, replicate, length-set, length-append, length-map, length-replicate, take-append-drop}
-use lib.Seq.{take-all, take-at, take-suc-set, take-append-le, take-append-add, length-take-le}
+use lib.Ieee.{Float, nan, binary32, fits, ofBits}
+use lib.ListN.{length, getD, set, take, drop, replicate, length-set, length-append, length-map, length-replicate, take-append-drop}
+use lib.Seq.{take-all, take-at, take-length, take-append-seam, take-suc-set, take-append-le, take-append-add, length-take-le}
 use Rattle.laws.specs.Choice.{pick, pick-if}
 use Rattle.laws.specs.Kinds.{All, Kept, all-none, all-cons, all-append, all-replicate}
 use Rattle.numbers.specs.Finite.{plus, isFinite, finiteOrZero}
@@ -32,46 +31,21 @@ use Rattle.numbers.proofs.Clean.{clean-finite, clean-fits}
 use Rattle.tau_state.specs.Constants.{zero32}
 use Rattle.tau_state.specs.Report.{reportOf}
 use Rattle.tau_state.specs.declared.state.TauCanceller.{TauCanceller}
+use Rattle.tau_block.specs.Block.{Block}
 use Rattle.tau_block_laws.specs.Silence.{Near, Silent}
 use Rattle.tau_block_laws.proofs.Ran.{ran-handed}
 use Rattle.tau_block_laws.proofs.Silence.{cleared-silent, block-passed}
 use Rattle.tau.specs.Fresh.{freshMic, freshOf}
-use Rattle.tau_frame.specs.Pairs.{Engine, Run, waitsOf, carrying, blockOf, fillOf, pairOf, pairsOf, padded, flushedOf}
+use Rattle.tau_frame.specs.Pairs.{Engine, Run, waitsOf, carrying, emptied, blockOf, fillOf, pairOf, pairsOf, padded, flushedOf, deliversOf}
 use Rattle.tau.specs.Calls.{begunOf, processOf, flushOf}
-use Rattle.tau_frame.specs.Pairs.{deliversOf}
-use Rattle.tau_streams.specs.Stream.{begunBy, ranBy, Part, cleanOf, joined, nearOf, farOf, rowOf, AllAccepted, Call, feed, flush, reset}
-use Rattle.tau_streams.specs.Silence.{heldNear, heldFar, Hushed, Begins, created, renewed, Passes, Emptied, Starts, madeBy, refusalBy, callsOf, AllTaken, takenOf, filledBy, givenOf, Gentle}
+use Rattle.streams.specs.Parts.{Part}
+use Rattle.streams.proofs.Sounds.{minus, still-zero}
+use Rattle.streams.proofs.Places.{alike-at}
+use Rattle.tau_streams.specs.Stream.{begunBy, ranBy, cleanOf, joined, Call, feed, flush, reset}
+use Rattle.tau_streams.specs.Silence.{heldNear, heldFar, Hushed, Begins, created, renewed, Passes, Emptied, madeBy, refusalBy, callsOf, AllTaken, takenOf, filledBy, givenOf, Gentle}
 use Rattle.tau.proofs.Accepted.{accepted-state, accepted-settings, accepted-pairs, create-answers, create-began, reset-answers, reset-began, reset-refused, process-answers, process-refused, flush-answers, flush-ran, flush-refused}
 use Rattle.tau_streams.proofs.Counts.{block-delivers, delivers}
-use Rattle.tau_streams.proofs.Cut.{joined-first, cut, served-ran, call-ran, row-runs, row-level}
-
--- ---- what is no sound, and what passes
-
--- -0.0
-abbrev pub minus : Float
-minus = ofBits binary32 0x8000_0000
-
--- 0.0, -0.0, NaN and the infinities are still.
-pub still-zero : Still zero32
-unfolding ofBits finiteOrZero isFinite pick eq
-still-zero = record { still = refl }
-
-pub still-minus : Still minus
-unfolding ofBits finiteOrZero isFinite pick eq
-still-minus = record { still = refl }
-
-pub still-nan : Still nan
-unfolding finiteOrZero isFinite pick eq
-still-nan = record { still = refl }
-
-pub still-inf : (s : Bool) → Still (inf s)
-unfolding finiteOrZero isFinite pick eq
-still-inf s = record { still = refl }
-
--- A near sample -0.0 is read as -0.0.
-pub minus-read : finiteOrZero minus ≡ minus
-unfolding ofBits finiteOrZero isFinite pick
-minus-read = refl
+use Rattle.tau_streams.proofs.Cut.{joined-first, cut, served-ran, call-ran}
 
 -- ---- small things
 
@@ -145,18 +119,18 @@ begins-hushed e (renewed d h q) =
 
 module _ (e : Engine) (near far : List Float) (n : ℕ) (adapt : Bool) (S : Silent (e .state) (e .shadow) (e .output) (e .spectra))
     (a : length (e .state .«near_carry») ≡ 256) (b : length (e .state .«far_carry») ≡ 256) (N : Near near) (F : Kept Zero 256 far) (l : n ≤ 256) where
-  abbrev bare : TauCanceller
-  bare = carrying (e .state) (e .state .«near_carry») (e .state .«far_carry») 0
+  abbrev samples : Block
+  samples = record { near = near; valid = n; adapt = adapt }
 
   block-empty : blockOf e near far n adapt .engine .state .carried ≡ 0
   unfolding blockOf
-  block-empty = ran-handed bare near far n adapt (e .shadow) (e .output) (e .spectra) .carried
+  block-empty = ran-handed (emptied e) far samples .carried
 
   block-hushed : Hushed (blockOf e near far n adapt .engine)
   unfolding blockOf
   block-hushed =
-      let B = block-passed bare near far n adapt (e .shadow) (e .output) (e .spectra) (carry-silent _ _ 0 S) N F l in
-      let k = ran-handed bare near far n adapt (e .shadow) (e .output) (e .spectra) in
+      let B = block-passed (emptied e) far samples (carry-silent _ _ 0 S) N F l in
+      let k = ran-handed (emptied e) far samples in
       record {
         silent = B .silent;
         room = omega (arith, k .carried);
@@ -169,7 +143,7 @@ module _ (e : Engine) (near far : List Float) (n : ℕ) (adapt : Bool) (S : Sile
 
   block-samples : blockOf e near far n adapt .samples ≡ take n near
   unfolding blockOf
-  block-samples = block-passed bare near far n adapt (e .shadow) (e .output) (e .spectra) (carry-silent _ _ 0 S) N F l .block
+  block-samples = block-passed (emptied e) far samples (carry-silent _ _ 0 S) N F l .block
 
 -- ---- one pair
 
@@ -424,7 +398,7 @@ pub three-samples : (e : Engine) (p : Part) (out : List Float) → Begins e → 
 unfolding givenOf
 three-samples e p out b n f a =
     let x : All Fits (p .near) = rw n three-fit in
-    let y : All Still (p .far) = rw f (all-cons still-zero (all-cons still-zero (all-cons still-zero all-none))) in
+    let y : All Still (p .far) = rw f (let q = subst Still (sym zero32-is) still-zero in all-cons q (all-cons q (all-cons q all-none))) in
     singer e (feed p ∷ []) out b a (all-cons (record { gentle = (x, y) }) all-none) ∙ ap cleanOf (append-nil (p .near) ∙ n) ∙ three-read
 
 -- ---- refused calls
@@ -459,14 +433,6 @@ singer-among e cs b g =
     ap (λ (r : Run). r .samples ++ heldNear (r .engine)) (sym (k .1)) ∙ singer-calls e (takenOf e cs) b (k .0) g
 
 -- ---- whatever follows
-
--- What pairs have delivered stays delivered, whatever pairs follow,
-pub pairs-stay : (e : Engine) (a b c d : List Float) → length a ≡ length c → Starts (pairsOf e a c .samples) (pairsOf e (a ++ b) (c ++ d) .samples)
-pairs-stay e a b c d l = record { more = pairsOf (pairsOf e a c .engine) b d .samples; is = ap (λ (r : Run). r .samples) (cut e a b c d l) }
-
--- and what calls have, whatever calls follow.
-pub calls-stay : (e : Engine) (cs ds : List Call) → Starts (callsOf e cs .run .samples) (callsOf e (cs ++ ds) .run .samples)
-calls-stay e cs ds = record { more = callsOf (callsOf e cs .run .engine) ds .run .samples; is = calls-samples e cs ds }
 
 -- whole blocks are delivered
 pair-whole : (e : Engine) (x y : Float) → length (pairOf e x y .samples) % 256 ≡ 0
@@ -504,7 +470,7 @@ passage-split : (e : Engine) (a b c d : List Float) → length a ≡ length c �
 passage-split e a b c d l h n f =
     let k = deliversOf (e .state .carried) (length a) in
     let r = pairsOf e a c in
-    let s = pairs-stay e a b c d l in
+    let more = pairsOf (r .engine) b d .samples in
     let p = pairs-passed e a c l h n f in
     let j = passed-count e a c l h n f in
     let w : heldNear e ++ cleanOf (a ++ b) ≡ r .samples ++ (heldNear (r .engine) ++ cleanOf b) =
@@ -512,7 +478,7 @@ passage-split e a b c d l h n f =
     ∙ sym (append-assoc (heldNear e) (cleanOf a) (cleanOf b))
     ∙ ap (λ (m : List Float). m ++ cleanOf b) (sym (p .passed))
     ∙ append-assoc (r .samples) (heldNear (r .engine)) (cleanOf b) in
-    ap (take k) (s .is) ∙ take-at (r .samples) (s .more) k j ∙ sym (ap (take k) w ∙ take-at (r .samples) (heldNear (r .engine) ++ cleanOf b) k j)
+    ap (λ (t : Run). take k (t .samples)) (cut e a b c d l) ∙ take-at (r .samples) more k j ∙ sym (ap (take k) w ∙ take-at (r .samples) (heldNear (r .engine) ++ cleanOf b) k j)
 
 -- Pairs of which the first n have still far samples, from an engine that has heard no far sound: the blocks that these n fill, with what
 -- waited before them, are delivered as near, whatever the pairs behind them are.
@@ -524,23 +490,7 @@ passage e near far n l k h a c =
     let p = passage-split e (take n near) (drop n near) (take n far) (drop n far) (i ∙ sym j) h a c in
     rw (take-append-drop n near, take-append-drop n far, i) at p
 
--- So from creation or reset on: where the first m blocks of a stream have still far samples, they are delivered as near.
-pub begun-passage : (e : Engine) (near far : List Float) (m : ℕ) → Begins e → length near ≡ length far → 256 * m ≤ length near
-    → All Fits (take (256 * m) near) → All Still (take (256 * m) far) → take (256 * m) (pairsOf e near far .samples) ≡ take (256 * m) (cleanOf near)
-begun-passage e near far m b l k a c =
-    let h = begins-hushed e b in
-    let z = h .1 in
-    let q : deliversOf (e .state .carried) (256 * m) ≡ 256 * m = omega arith in
-    rw (q, held-none e z) at (passage e near far (256 * m) l k (h .0) a c)
-
--- The same of a row of accepted calls, however the stream is cut into them.
-pub row-passage : (e : Engine) (ps : List Part) (m : ℕ) → Begins e → AllAccepted e ps → 256 * m ≤ length (nearOf ps)
-    → All Fits (take (256 * m) (nearOf ps)) → All Still (take (256 * m) (farOf ps))
-    → take (256 * m) (rowOf e ps .run .samples) ≡ take (256 * m) (cleanOf (nearOf ps))
-row-passage e ps m b r k a c =
-    ap (λ (t : Run). take (256 * m) (t .samples)) (row-runs e ps r) ∙ begun-passage e (nearOf ps) (farOf ps) m b (row-level e ps r) k a c
-
--- And of any accepted process and flush calls with still far samples, and then an accepted process of which the first n far samples are
+-- So of any accepted process and flush calls with still far samples, and then an accepted process of which the first n far samples are
 -- still, whatever calls follow: every block that these pairs fill is delivered as near, and so is what each flush delivers.
 pub singer-first : (e : Engine) (cs : List Call) (p : Part) (ds : List Call) (n : ℕ) → Begins e → AllTaken e (cs ++ (feed p ∷ [])) → All Gentle cs
     → n ≤ length (p .near) → All Fits (take n (p .near)) → All Still (take n (p .far))
@@ -566,3 +516,71 @@ singer-first e cs p ds n b a g k x y =
     (sym (append-assoc (r .samples) (heldNear v) (cleanOf (p .near)))
     ∙ ap (λ (m : List Float). m ++ cleanOf (p .near)) (singer-calls e cs b (t .0) g)
     ∙ sym (map-append finiteOrZero (givenOf cs) (p .near)))
+
+-- ---- with refused calls of any kind among the others, and place by place
+
+-- calls that are accepted, and then more of them
+taken-more : (e : Engine) (cs ds : List Call) → AllTaken e cs → AllTaken (callsOf e cs .run .engine) ds → AllTaken e (cs ++ ds)
+unfolding callsOf
+taken-more e [] ds a b = b
+taken-more e (c ∷ cs) ds a b = all-cons (a .each .0) (taken-more (madeBy e c .engine) cs ds (record { each = a .each .1 }) b)
+
+-- refused ones, with any calls behind them
+aside-more : (e : Engine) (cs ds : List Call) → callsOf e (takenOf e cs ++ ds) .run .samples ≡ callsOf e (cs ++ ds) .run .samples
+aside-more e cs ds =
+    calls-samples e (takenOf e cs) ds
+    ∙ ap (λ (r : Run). r .samples ++ callsOf (r .engine) ds .run .samples) (refused-aside e cs .1)
+    ∙ sym (calls-samples e cs ds)
+
+-- Each sample delivered so far is near's at its place.
+pub singer-places : (e : Engine) (cs : List Call) → Begins e → All Gentle (takenOf e cs) → (i : ℕ) → i < length (callsOf e cs .run .samples)
+    → getD (callsOf e cs .run .samples) i nan ≡ finiteOrZero (getD (givenOf (takenOf e cs)) i nan)
+singer-places e cs b g i j =
+    let r = callsOf e cs .run in
+    let n = length (r .samples) in
+    let p = take-length (r .samples) ∙ sym (take-append-seam (r .samples) (heldNear (r .engine))) ∙ ap (take n) (singer-among e cs b g) in
+    alike-at finiteOrZero n (r .samples) (givenOf (takenOf e cs)) i nan nan p (omega arith) j
+
+-- After a flush, accepted, there is one for each near sample.
+pub singer-flushed : (e : Engine) (cs : List Call) (out : List Float) → Begins e → All Gentle (takenOf e cs)
+    → flushOf (callsOf e cs .run .engine) out .answer .refusal ≡ 0
+    → callsOf e (cs ++ (flush out ∷ [])) .run .samples ≡ cleanOf (givenOf (takenOf e cs))
+unfolding callsOf refusalBy
+singer-flushed e cs out b g f =
+    let k = refused-aside e cs in
+    let t = subst (λ (r : Run). AllTaken (r .engine) (flush out ∷ [])) (sym (k .1)) (all-cons f all-none) in
+    sym (aside-more e cs (flush out ∷ [])) ∙ singer e (takenOf e cs) out b (taken-more e (takenOf e cs) (flush out ∷ []) (k .0) t) g
+
+-- the blocks that are filled by the calls and n pairs of a process behind them are among the delivered
+filled-few : (e : Engine) (cs : List Call) (p : Part) (ds : List Call) (n : ℕ) → refusalBy (callsOf e cs .run .engine) (feed p) ≡ 0 → n ≤ length (p .near)
+    → filledBy e cs n ≤ length (callsOf e (cs ++ (feed p ∷ ds)) .run .samples)
+unfolding callsOf madeBy refusalBy
+filled-few e cs p ds n a k =
+    let r = callsOf e cs .run in
+    let v = r .engine in
+    let z = sym (process-answers v (p .near) (p .far) (p .out)) ∙ a in
+    let w = accepted-pairs (v .state) (length (v .shadow)) (length (v .output)) (length (v .spectra)) _ _ _ z in
+    let q = processOf v (p .near) (p .far) (p .out) in
+    let rest = callsOf (madeBy v (feed p) .engine) ds .run .samples in
+    let c = ap (λ (m : Run). length (m .samples)) (call-ran v (p .near) (p .far) (p .out) z) in
+    let d = delivers v (p .near) (p .far) (w .state .ranged) (w .pairs .level) in
+    let i = length-append (ranBy q .samples) rest in
+    let j = length-append (r .samples) (ranBy q .samples ++ rest) in
+    let l = ap length (calls-samples e cs (feed p ∷ ds)) in
+    omega (arith, c, d, i, j, l, k)
+
+-- Before the first far sound: cs are the calls before the process p that holds it, at its pair n or later, and ds any calls behind. Each
+-- sample of the blocks that are filled before it, and of each flush, is near's at its place.
+pub first-places : (e : Engine) (cs : List Call) (p : Part) (ds : List Call) (n : ℕ) → Begins e → All Gentle (takenOf e cs)
+    → processOf (callsOf e cs .run .engine) (p .near) (p .far) (p .out) .answer .refusal ≡ 0
+    → n ≤ length (p .near) → All Fits (take n (p .near)) → All Still (take n (p .far)) → (i : ℕ) → i < filledBy e cs n
+    → getD (callsOf e (cs ++ (feed p ∷ ds)) .run .samples) i nan ≡ finiteOrZero (getD (givenOf (takenOf e cs) ++ p .near) i nan)
+unfolding callsOf refusalBy
+first-places e cs p ds n b g a k x y i j =
+    let ts = takenOf e cs in
+    let q = refused-aside e cs in
+    let t = subst (λ (r : Run). AllTaken (r .engine) (feed p ∷ [])) (sym (q .1)) (all-cons a all-none) in
+    let s = singer-first e ts p ds n b (taken-more e ts (feed p ∷ []) (q .0) t) g k x y in
+    let same : filledBy e ts n ≡ filledBy e cs n = ap (λ (r : Run). length (r .samples) + deliversOf (r .engine .state .carried) n) (q .1) in
+    let u = rw (same, aside-more e cs (feed p ∷ ds)) at s in
+    alike-at finiteOrZero (filledBy e cs n) (callsOf e (cs ++ (feed p ∷ ds)) .run .samples) (givenOf ts ++ p .near) i nan nan u (filled-few e cs p ds n a k) j

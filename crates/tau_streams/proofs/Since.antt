@@ -1,29 +1,31 @@
 -- Any calls in any order, from creation or reset on: process, flush and reset, refused ones among them. Assumes nothing.
 --     begun-uncut          after creation and reset, accepted, nothing has come yet
 --     call-uncut, calls-uncut     after each call all is as one run over the uncut stream, since the last creation, reset or flush, makes it
+--     now-good             the engine is in order
 --     created-calls, reset-calls     so it is after any calls from creation or reset on
 --     since-blocks, since-rest     in blocks: the samples since then are those of the whole blocks of the uncut stream, and what a flush runs
 --                          is a block of the rest of it, padded
 --     since-delivers, since-waits     the N pairs since then have delivered the whole blocks of N, and the rest, at most 255, is carried
---     since-flush          a flush then delivers that rest: the samples are those of the flushed run over the uncut stream,
---     since-all            and with it there is a sample for each pair
+--     since-flush          a flush then delivers that rest: the samples are those of the flushed run over the uncut stream
 use mathlib.Core.Path.{_≡_, refl, sym, ap, _∙_, subst}
 use mathlib.Core.Bool.{Bool, false}
 use mathlib.Core.List.{List, [], _∷_, _++_}
-use Prim.Native.Nat.{ℕ, _+_, _*_, _/_, _%_, _≤_}
+use Prim.Native.Nat.{ℕ, _+_, _-_, _*_, _/_, _%_, _≤_}
 use native.Mathlib.Omega.{arith}
 use borrow.Author.Tests.{eqb-true, eqb-false}
 use lib.Dec.{eqb}
 use lib.Ieee.{Float}
-use lib.ListN.{length, drop, length-append, length-drop}
+use lib.ListN.{length, drop, replicate, length-append, length-drop}
 use Rattle.laws.specs.Choice.{pick-if}
+use Rattle.tau_state.specs.Constants.{zero32}
 use Rattle.tau_state.specs.Report.{reportOf}
 use Rattle.tau_frame.specs.Pairs.{Engine, Run, waitsOf, blockOf, pairsOf, flushedOf}
 use Rattle.tau.specs.Calls.{createRefusal, createOf, resetOf, refusedOf, processOf, flushOf}
-use Rattle.tau_streams.specs.Stream.{Good, begunBy, leftBy, ranBy, Part, joined, blocksOf, waiting, byBlocks, restOf, Call, feed, flush, reset, Since, anew, onward, afterCall, afterCalls, Uncut}
+use Rattle.streams.specs.Parts.{Part}
+use Rattle.tau_streams.specs.Stream.{Good, begunBy, leftBy, ranBy, Delivery, joined, cleanOf, blocksOf, byBlocks, paddedRest, Call, feed, flush, reset, Since, anew, onward, afterCall, afterCalls, Uncut}
 use Rattle.tau.specs.Calls.{stateNumber, processNumber, flushNumber}
 use Rattle.tau.proofs.Accepted.{accepted-pairs, process-answers, process-refused, flush-answers, flush-ran, flush-refused, reset-answers, reset-refused}
-use Rattle.tau_streams.proofs.Counts.{pairs-sound, flushed-sound, created-good, created-empty, reset-good, reset-empty, delivers, carries, flushed-empties, Delivery, flush-delivers}
+use Rattle.tau_streams.proofs.Counts.{pairs-intact, flushed-intact, created-good, created-empty, reset-good, reset-empty, delivers, carries, flushed-empties, flush-delivers}
 use Rattle.tau_streams.proofs.Cut.{joined-last, cut, call-ran}
 use Rattle.tau_streams.proofs.Blocks.{stream-blocks, rest-flushed}
 
@@ -45,9 +47,9 @@ refused-uncut : (t : Since) (r : Run) → r ≡ waitsOf (t .run .engine) → Unc
 refused-uncut t r q h =
     record { good = h .good; empty = h .empty; level = h .level; run = ap (joined (t .run)) q ∙ joined-last (t .run) ∙ h .run }
 
--- the engine now is in order
-now-good : (t : Since) → Uncut t → Good (t .run .engine)
-now-good t h = subst (λ (r : Run). Good (r .engine)) (sym (h .run)) (pairs-sound (t .start) (t .near) (t .far) (h .good))
+-- The engine now is in order, so its state is accepted.
+pub now-good : (t : Since) → Uncut t → Good (t .run .engine)
+now-good t h = subst (λ (r : Run). Good (r .engine)) (sym (h .run)) (pairs-intact (t .start) (t .near) (t .far) (h .good))
 
 -- an accepted process joins its pairs to those before
 process-uncut : (t : Since) (p : Part) → processNumber (t .run .engine) (p .near) (p .far) (p .out) ≡ 0 → Uncut t
@@ -70,7 +72,7 @@ flushed-uncut : (t : Since) (out : List Float) → flushNumber (t .run .engine) 
 flushed-uncut t out z h =
     let e = t .run .engine in
     subst (λ (d : Engine). Uncut (anew d)) (sym (ap leftBy (flush-ran e out z)))
-    (begun-uncut (flushedOf e .engine) (flushed-sound e (now-good t h)) (flushed-empties e))
+    (begun-uncut (flushedOf e .engine) (flushed-intact e (now-good t h)) (flushed-empties e))
 
 -- After each call all is as one run over the uncut stream, since the last creation, reset or flush, makes it.
 pub call-uncut : (t : Since) (c : Call) → Uncut t → Uncut (afterCall t c)
@@ -137,11 +139,6 @@ since-flush t out h z =
     subst (λ (n : ℕ). Delivery (flushedOf (pairsOf (t .start) (t .near) (t .far) .engine)) n out c) (since-waits t h .0)
     (subst (λ (r : Run). Delivery (flushedOf (r .engine)) (t .run .engine .state .carried) out c) (h .run) (flush-delivers (t .run .engine) out z))
 
--- With it there is a sample for each pair.
-pub since-all : (t : Since) (out : List Float) → Uncut t → flushNumber (t .run .engine) out ≡ 0
-    → length (t .run .samples) + flushOf (t .run .engine) out .answer .delivered ≡ length (t .near)
-since-all t out h z = omega (arith, since-delivers t h, since-flush t out h z .count)
-
 -- ---- in blocks
 
 -- The samples since then are those of the whole blocks of 256 pairs of the uncut stream, one after the other; the engine now is what they
@@ -151,20 +148,19 @@ since-blocks t h = h .run ∙ stream-blocks (t .start) (t .near) (t .far) (h .go
 
 -- What a flush then runs, where pairs wait, is a block of that rest, padded with 0.0, that does not adapt.
 pub since-rest : (t : Since) → Uncut t → 1 ≤ length (t .near) % 256
-    → flushedOf (t .run .engine)
-    ≡ blockOf (t .run .engine) (restOf (drop (256 * (length (t .near) / 256)) (t .near))) (restOf (drop (256 * (length (t .near) / 256)) (t .far)))
-    (length (t .near) % 256) false
+    → flushedOf (t .run .engine) ≡ blockOf (t .run .engine) (paddedRest (t .near)) (paddedRest (t .far)) (length (t .near) % 256) false
 since-rest t h k =
-    let n = 256 * (length (t .near) / 256) in
-    let a = drop n (t .near) in
-    let c = drop n (t .far) in
-    let la = length-drop n (t .near) in
-    let lc = length-drop n (t .far) in
+    let m = length (t .near) % 256 in
+    let n = length (t .near) / 256 in
+    let a = drop (256 * n) (t .near) in
+    let c = drop (256 * n) (t .far) in
     let v = h .level in
-    let p : length a ≡ length (t .near) % 256 = omega arith in
-    let q = ap (λ (r : Run). r .engine) (since-blocks t h) in
-    let e = blocksOf (length (t .near) / 256) (t .start) (t .near) (t .far) .engine in
-    ap flushedOf q
-    ∙ rest-flushed e a c (omega arith) (omega arith)
-    ∙ ap (λ (m : ℕ). blockOf (waiting e a c) (restOf a) (restOf c) m false) p
-    ∙ ap (λ (d : Engine). blockOf d (restOf a) (restOf c) (length (t .near) % 256) false) (sym q)
+    let p : length a ≡ m = omega (arith, length-drop (256 * n) (t .near)) in
+    let q : length c ≡ m = omega (arith, v, length-drop (256 * n) (t .far)) in
+    let s = ap (λ (r : Run). r .engine) (since-blocks t h) in
+    let e = blocksOf n (t .start) (t .near) (t .far) .engine in
+    let f : c ≡ drop (256 * (length (t .far) / 256)) (t .far) = ap (λ (i : ℕ). drop (256 * (i / 256)) (t .far)) v in
+    let back = sym s in
+    ap flushedOf s
+    ∙ rest-flushed e a c _ _ m p q k
+    ∙ (λ i. blockOf (back i) (paddedRest (t .near)) (let rest = f i in cleanOf rest ++ replicate (256 - length rest) zero32) m false)

@@ -7,7 +7,8 @@ use lib.Ieee.{Float}
 use lib.ListN.{length}
 use Rattle.tau_frame.specs.Pairs.{Engine, pairsOf, flushedOf}
 use Rattle.tau.specs.Calls.{createOf, flushOf}
-use Rattle.tau_streams.specs.Stream.{begunBy, Part, nearOf, rowOf, AllAccepted}
+use Rattle.streams.specs.Parts.{Part, allNear}
+use Rattle.tau_streams.specs.Stream.{begunBy, rowOf, AllAccepted}
 
 -- an engine as an accepted creation leaves it, with any settings and whatever the buffers held
 pub record Created (e : Engine) : Type 0 where
@@ -38,8 +39,8 @@ M12 =
 abbrev pub M12Calls : Type 0
 M12Calls =
     (e : Engine) (ps : List Part) → Created e → AllAccepted e ps
-    → (length (nearOf ps) ≡ 255 → length (rowOf e ps .run .samples) ≡ 0)
-    × (length (nearOf ps) ≡ 256 → length (rowOf e ps .run .samples) ≡ 256)
-    × (length (nearOf ps) ≡ 600
+    → (length (allNear ps) ≡ 255 → length (rowOf e ps .run .samples) ≡ 0)
+    × (length (allNear ps) ≡ 256 → length (rowOf e ps .run .samples) ≡ 256)
+    × (length (allNear ps) ≡ 600
     → (length (rowOf e ps .run .samples) ≡ 512)
     × ((out : List Float) → flushOf (rowOf e ps .run .engine) out .answer .refusal ≡ 0 → flushOf (rowOf e ps .run .engine) out .answer .delivered ≡ 88))

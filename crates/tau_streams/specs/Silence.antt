@@ -11,10 +11,10 @@ use Rattle.laws.specs.Choice.{pick}
 use Rattle.laws.specs.Kinds.{All}
 use Rattle.numbers.specs.Zeros.{Zero, Finite, Fits, Still}
 use Rattle.tau_block_laws.specs.Silence.{Silent}
-use Rattle.tau_frame.specs.Pairs.{Engine, Run, waitsOf}
+use Rattle.tau_frame.specs.Pairs.{Engine, Run, waitsOf, deliversOf}
 use Rattle.tau.specs.Calls.{createOf, resetOf, processOf, flushOf}
-use Rattle.tau_frame.specs.Pairs.{deliversOf}
-use Rattle.tau_streams.specs.Stream.{begunBy, ranBy, joined, Row, Call, feed, flush, reset}
+use Rattle.streams.specs.Parts.{Made}
+use Rattle.tau_streams.specs.Stream.{begunBy, ranBy, joined, Call, feed, flush, reset}
 
 -- ---- samples and engines
 
@@ -55,11 +55,6 @@ pub record Emptied (e : Engine) (r : Run) : Type 0 where
   pub empty : r .engine .state .carried ≡ 0
   pub samples : r .samples ≡ heldNear e
 
--- l starts with m
-pub record Starts (m l : List Float) : Type 0 where
-  pub more : List Float
-  pub is : l ≡ m ++ more
-
 -- ---- calls of every kind in a row
 
 -- a call on an engine: what it leaves and delivers, and its refusal
@@ -75,7 +70,7 @@ refusalBy e reset = resetOf e .answer .refusal
 
 -- the calls one after the other, each on the state and the buffers that the one before it left: what the last left, all delivered samples
 -- joined, and each call's refusal
-unfoldable pub callsOf : Engine → List Call → Row
+unfoldable pub callsOf : Engine → List Call → Made Run
 callsOf e [] = record { run = waitsOf e; refusals = [] }
 callsOf e (c ∷ cs) =
     let r = madeBy e c in

@@ -12,14 +12,14 @@ use Rattle.laws.specs.Kinds.{All}
 use Rattle.numbers.specs.Finite.{finiteOrZero}
 use Rattle.tau_state.specs.Constants.{zero32}
 use Rattle.tau_state.specs.Ranges.{Ranged}
-use Rattle.tau_frame.specs.Pairs.{Engine, Run, waitsOf, carrying, blockOf, lastOf, pairsOf}
+use Rattle.tau_frame.specs.Pairs.{Engine, Run, waitsOf, carrying, blockOf, lastOf, pairsOf, deliversOf}
+use Rattle.streams.specs.Parts.{Part, Made}
 use Rattle.tau.specs.Calls.{Begun, Called, resetOf, processOf, flushOf}
-use Rattle.tau_frame.specs.Pairs.{deliversOf}
 
 -- ---- engines
 
 -- an engine in order, with carries of n and of f numbers: its state in the ranges of refusal 6, its buffers of the lengths of refusal 2
-pub record Sound (n f : ℕ) (e : Engine) : Type 0 where
+pub record Intact (n f : ℕ) (e : Engine) : Type 0 where
   pub ranged : Ranged (e .state)
   pub shadow : length (e .shadow) ≡ 514 * e .state .partitions
   pub output : length (e .output) ≡ 514 * e .state .partitions
@@ -29,7 +29,7 @@ pub record Sound (n f : ℕ) (e : Engine) : Type 0 where
 
 -- the same with carries of 256 numbers, as their type says in the code
 abbrev pub Good : Engine → Type 0
-Good e = Sound 256 256 e
+Good e = Intact 256 256 e
 
 -- ---- calls
 
@@ -48,17 +48,16 @@ deliveredBy c = take (c .answer .delivered) (c .out)
 abbrev pub ranBy : Called → Run
 ranBy c = record { engine = leftBy c; samples = deliveredBy c; last = c .answer .report .outcome }
 
+-- An accepted call, of which r is the run and n its number of samples: it answers 0 and delivers n. These are the first places of the
+-- output buffer, which keeps its length, and the rest of it is as it was.
+pub record Delivery (r : Run) (n : ℕ) (out : List Float) (c : Called) : Type 0 where
+  pub accepted : c .answer .refusal ≡ 0
+  pub count : c .answer .delivered ≡ n
+  pub long : length (c .out) ≡ length out
+  pub samples : take n (c .out) ≡ r .samples
+  pub rest : drop n (c .out) ≡ drop n out
+
 -- ---- a stream cut into parts
-
--- a part of a stream, and the output buffer that is lent for it
-pub record Part : Type 0 where
-  pub near : List Float
-  pub far : List Float
-  pub out : List Float
-
--- as many near samples as far samples
-pub record Level (p : Part) : Type 0 where
-  pub level : length (p .near) ≡ length (p .far)
 
 -- for each part in turn, an output buffer that holds what it delivers over what then waits: from c waiting pairs, n more leave the
 -- remainder of c + n by 256
@@ -68,15 +67,6 @@ Rooms c (p ∷ ps) = (deliversOf c (length (p .near)) ≤ length (p .out)) × Ro
 
 pub record Roomy (c : ℕ) (ps : List Part) : Type 0 where
   pub rooms : Rooms c ps
-
--- the whole stream's near samples, and its far samples
-unfoldable pub nearOf : List Part → List Float
-nearOf [] = []
-nearOf (p ∷ ps) = p .near ++ nearOf ps
-
-unfoldable pub farOf : List Part → List Float
-farOf [] = []
-farOf (p ∷ ps) = p .far ++ farOf ps
 
 -- two runs one after the other: the last engine, the samples of both, and what the last block of both did
 abbrev pub joined : Run → Run → Run
@@ -90,24 +80,22 @@ joined first second = record {
 abbrev pub thenOf : Engine → List Float → List Float → List Float → List Float → Run
 thenOf e a c b d = let first = pairsOf e a c in joined first (pairsOf (first .engine) b d)
 
--- the parts run one after the other, each from where the one before it ended
-unfoldable pub partsOf : Engine → List Part → Run
-partsOf e [] = waitsOf e
-partsOf e (p ∷ ps) = let run = pairsOf e (p .near) (p .far) in joined run (partsOf (run .engine) ps)
-
--- ---- a stream by blocks, with no carry
+-- ---- a stream by blocks, from an engine with an empty carry
 
 -- the samples as they are read
 abbrev pub cleanOf : List Float → List Float
 cleanOf l = map finiteOrZero l
 
--- the engine with the n pairs a and c for its carry, read so
-abbrev pub holding : Engine → List Float → List Float → ℕ → Engine
-holding e a c n = record { state = carrying (e .state) (cleanOf a) (cleanOf c) n; shadow = e .shadow; output = e .output; spectra = e .spectra }
+-- the engine with another carry, of which n pairs wait; and a run after which it has it
+abbrev pub withCarry : Engine → List Float → List Float → ℕ → Engine
+withCarry e near far n = record { state = carrying (e .state) near far n; shadow = e .shadow; output = e .output; spectra = e .spectra }
 
--- the block of 256 pairs, a and c
+abbrev pub withCarryAfter : Run → List Float → List Float → ℕ → Run
+withCarryAfter r near far n = record { engine = withCarry (r .engine) near far n; samples = r .samples; last = r .last }
+
+-- the block of 256 pairs, a and c, by the block rule
 abbrev pub blockOn : Engine → List Float → List Float → Run
-blockOn e a c = blockOf (holding e a c 256) (cleanOf a) (cleanOf c) 256 true
+blockOn e a c = blockOf e (cleanOf a) (cleanOf c) 256 true
 
 -- the first k blocks of 256 pairs, one after the other
 unfoldable pub blocksOf : ℕ → Engine → List Float → List Float → Run
@@ -116,41 +104,29 @@ blocksOf (suc k) e near far =
     let b = blockOn e (take 256 near) (take 256 far) in
     joined b (blocksOf k (b .engine) (drop 256 near) (drop 256 far))
 
--- the engine with the pairs a and c, too few for a block, at the front of its carry
-abbrev pub waiting : Engine → List Float → List Float → Engine
-waiting e a c =
-    let s = e .state in
-    record {
-      state = carrying s (cleanOf a ++ drop (length a) (s .«near_carry»)) (cleanOf c ++ drop (length c) (s .«far_carry»)) (length a);
-      shadow = e .shadow;
-      output = e .output;
-      spectra = e .spectra;
-    }
+-- A carry l of 256 places after k blocks of a stream and the pairs behind them, too few for a block: these stand at its front, and
+-- behind them what was last written there, which is the last block's samples, or as it was where there was none.
+unfoldable pub writtenTo : ℕ → List Float → List Float → List Float
+writtenTo zero l stream = l
+writtenTo (suc k) l stream = cleanOf (take 256 (drop (256 * k) stream))
 
--- the first k blocks of a stream, with the pairs behind them left waiting
-abbrev pub blocksThen : ℕ → Engine → List Float → List Float → Run
-blocksThen k e near far =
-    let b = blocksOf k e near far in
-    record { engine = waiting (b .engine) (drop (256 * k) near) (drop (256 * k) far); samples = b .samples; last = b .last }
+abbrev pub carryOf : ℕ → List Float → List Float → List Float
+carryOf k l stream = let rest = drop (256 * k) stream in cleanOf rest ++ drop (length rest) (writtenTo k l stream)
 
--- a stream by blocks: all whole blocks, and the rest is left waiting
+-- a stream by blocks: all whole blocks, and the rest of its pairs waits in the carry
 abbrev pub byBlocks : Engine → List Float → List Float → Run
-byBlocks e near far = blocksThen (length near / 256) e near far
+byBlocks e near far =
+    let k = length near / 256 in
+    withCarryAfter (blocksOf k e near far) (carryOf k (e .state .«near_carry») near) (carryOf k (e .state .«far_carry») far) (length near % 256)
 
--- that rest, padded with 0.0 to 256
-abbrev pub restOf : List Float → List Float
-restOf l = cleanOf l ++ replicate (256 - length l) zero32
+-- the samples behind the whole blocks of a stream, padded with 0.0 to 256
+abbrev pub paddedRest : List Float → List Float
+paddedRest stream = let rest = drop (256 * (length stream / 256)) stream in cleanOf rest ++ replicate (256 - length rest) zero32
 
 -- ---- rows of calls
 
--- what a row of calls leaves: the state and the buffers after the last, all delivered samples joined, the outcome of the last block, and
--- each call's refusal
-pub record Row : Type 0 where
-  pub run : Run
-  pub refusals : List ℕ
-
 -- the parts processed one after the other, each call on the state and the buffers that the one before it left
-unfoldable pub rowOf : Engine → List Part → Row
+unfoldable pub rowOf : Engine → List Part → Made Run
 rowOf e [] = record { run = waitsOf e; refusals = [] }
 rowOf e (p ∷ ps) =
     let call = processOf e (p .near) (p .far) (p .out) in
