@@ -3,8 +3,8 @@
 mod tau_calls;
 
 use rho::Answer;
-use rho::RhoCanceller;
 use rho::Started;
+use rho_state::state::RhoCanceller;
 ghost use Rattle.numbers.specs.Promises.{Narrow, NarrowBits};
 ghost use Rattle.complex_fft.specs.Promises.{ComplexForward, ComplexInverse};
 ghost use Rattle.fft.specs.Promises.{Forward, Inverse};

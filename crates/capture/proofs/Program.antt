@@ -16,7 +16,8 @@ use Rattle.tau_state.specs.Constants.{zero32, zero64}
 use Rattle.tau_frame.specs.Pairs.{Engine, Run, pairsOf, flushedOf}
 use Rattle.tau.specs.Calls.{createRefusal, Called, servedOf, processOf, flushOf}
 use Rattle.tau_streams.specs.Stream.{Good, joined}
-use Rattle.tau.proofs.Accepted.{State, create-answers, settings-accepted, process-accepted, flush-accepted, process-ran, flush-ran}
+use Rattle.tau_fresh.proofs.Accepted.{State, settings-accepted, process-accepted, flush-accepted}
+use Rattle.tau.proofs.Accepted.{create-answers, process-ran, flush-ran}
 use Rattle.tau_streams.proofs.Counts.{created-good, pairs-intact}
 use Rattle.tau_streams.specs.Silence.{Begins, created}
 use Rattle.tau_streams.proofs.Cut.{cut}

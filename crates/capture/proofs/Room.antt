@@ -26,7 +26,7 @@ use Rattle.tau_frame.specs.Pairs.{Engine}
 use Rattle.tau.specs.Calls.{Called, processOf, flushOf}
 use Rattle.tau_streams.specs.Stream.{deliveredBy}
 use Rattle.tau.specs.Calls.{processNumber, flushNumber}
-use Rattle.tau.proofs.Accepted.{accepted-pairs, accepted-flush}
+use Rattle.tau_fresh.proofs.Accepted.{accepted-pairs, accepted-flush}
 use Rattle.tau_streams.proofs.Counts.{delivers, flushed-delivers}
 use Rattle.wire.specs.Wire.{sampleAt, pairsIn, nearIn, farIn, writtenAt, bytesOf}
 use Rattle.wire.proofs.Captures.{near-front, far-front, written-front}

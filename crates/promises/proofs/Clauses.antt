@@ -18,7 +18,7 @@ use Rattle.trig.proofs.Entries.{recombination-at, twiddle-at, length-recombinat
 use Rattle.complex_fft.specs.Reversal.{rev8, reversalTable}
 use Rattle.complex_fft.proofs.Reversing.{at-entry}
 use Rattle.rho_taps.specs.Update as rhoUpdate
-use Rattle.tau_steps.specs.Paths.{counted}
+use Rattle.tau_paths.specs.Paths.{counted}
 use Rattle.tau_state.specs.Constants.{oneMore, oneMore32}
 use Rattle.tau_block_laws.proofs.Bounds.{step-factor, target-bounds}
 use Rattle.promises.specs.Clauses.{Narrowing, Extremes, Products, Rounds, Entries, Reversal, StepFactor, SuppressorTarget, Counters}

@@ -9,10 +9,10 @@ use Rattle.laws.specs.Choice.{pick, pick-yes, pick-no, pick-if}
 use Rattle.complex_fft.specs.Calls.{Wrote, complexOf}
 use Rattle.fft.specs.Calls.{lentOf, forwardOf, inverseOf, forwardWithOf, inverseWithOf, halfWithOf}
 use Rattle.rho.specs.Calls as rho
-use Rattle.rho.specs.State as rhoStates
+use Rattle.rho_state.specs.State as rhoStates
 use Rattle.rho_streams.proofs.Counts as rhoCounts
 use Rattle.tau_state.specs.Ranges.{rangedOf}
-use Rattle.tau.specs.Fresh.{emptyOf}
+use Rattle.tau_fresh.specs.Fresh.{emptyOf}
 use Rattle.tau.specs.Calls as tau
 use Rattle.tau.proofs.Accepted as accepted
 use Rattle.promises.specs.Demand1.{Test, firstOf, Holding, Exactly, TransformRefuses, ComplexRefuses, LentRefuses, TauCreateRefuses, TauProcessRefuses, TauFlushRefuses, TauResetRefuses, TauUntouched, unbegunOf, TauUnbegun, RhoCreateRefuses, RhoProcessRefuses, RhoStateRefuses, RhoUntouched, RhoUnbegun}

@@ -7,7 +7,7 @@ use Rattle.rho_streams.proofs.Counts as rhoCounts
 use Rattle.tau_block_laws.specs.Resets.{clearsOf, howMany}
 use Rattle.tau_block_laws.proofs.Ran.{ran-transfers}
 use Rattle.tau_block_laws.proofs.Resets.{ran-resets, more-held, shadow-clears, output-clears, update-clears, guard-clears}
-use Rattle.rho.specs.State as rhoStates
+use Rattle.rho_state.specs.State as rhoStates
 use Rattle.rho.specs.Calls as rho
 use Rattle.tau_state.specs.Report.{reportOf}
 use Rattle.tau.specs.Calls as tau

@@ -6,7 +6,7 @@ use native.Mathlib.Omega.{arith}
 use lib.ListN.{length}
 use Rattle.laws.specs.Choice.{pick-if}
 use Rattle.streams.proofs.Sounds.{still-zero, still-minus, still-nan, still-inf, minus-read}
-use Rattle.rho.specs.Sample as sample
+use Rattle.rho_sample.specs.Sample as sample
 use Rattle.rho.specs.Calls as rho
 use Rattle.rho_streams.specs.Stream as rhoStream
 use Rattle.rho_streams.proofs.Counts as rhoCounts
@@ -17,6 +17,7 @@ use Rattle.tau_state.specs.Ranges.{rangedOf}
 use Rattle.tau_frame.specs.Pairs.{Engine}
 use Rattle.tau.specs.Calls as tau
 use Rattle.tau.proofs.Accepted as accepted
+use Rattle.tau_fresh.proofs.Accepted as fresh
 use Rattle.tau_streams.specs.Stream.{Good, Since, Uncut}
 use Rattle.tau_streams.proofs.Counts.{intact-accepted}
 use Rattle.tau_streams.proofs.Cut.{rows-agree, cut-call}
@@ -42,15 +43,15 @@ tau-ready : (e : Engine) → Good e → TauReady e
 tau-ready e g =
     let z = intact-accepted e g in
     let t = tau-tests e z in
-    let s = accepted.accepted-state (e .state) (length (e .shadow)) (length (e .output)) (length (e .spectra)) z in
+    let s = fresh.accepted-state (e .state) (length (e .shadow)) (length (e .output)) (length (e .spectra)) z in
     record {
       ranged = t .0;
       sized = t .1;
       resets = accepted.reset-answers e ∙ z;
-      flushes = λ out k. accepted.flush-answers e out ∙ accepted.flush-accepted (e .state) _ _ _ _ (record { state = s; room = k });
+      flushes = λ out k. accepted.flush-answers e out ∙ fresh.flush-accepted (e .state) _ _ _ _ (record { state = s; room = k });
       feeds = λ near far out l m k.
           accepted.process-answers e near far out
-          ∙ accepted.process-accepted (e .state) _ _ _ _ _ _ (record { state = s; pairs = record { level = l; few = m; room = k } });
+          ∙ fresh.process-accepted (e .state) _ _ _ _ _ _ (record { state = s; pairs = record { level = l; few = m; room = k } });
     }
 
 holds : (t : Since) → Uncut t → TauHolds t

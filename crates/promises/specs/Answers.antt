@@ -17,7 +17,7 @@ use Rattle.complex_fft.specs.declared.complex_fft.Wings.{Wings}
 use Rattle.complex_fft.specs.Calls.{Wrote}
 use Rattle.complex_fft.specs.Promises.{ComplexForward, ComplexInverse, ReversalTable, Butterfly}
 use Rattle.fft.specs.Promises.{Forward, Inverse, ForwardWith, InverseWith, InverseHalfWith, RefusedKeeps}
-use Rattle.rho.specs.Sample as rhoSample
+use Rattle.rho_sample.specs.Sample as rhoSample
 use Rattle.rho.specs.declared.calls.Answer as rhoAnswer
 use Rattle.rho.specs.Calls as rhoCalls
 use Rattle.rho.specs.Promises as rho

@@ -15,7 +15,7 @@ use Rattle.trig.specs.Trig.{_⊗_, _⊘_, whole, half, pi, twoPi, halfPi, angle
 use Rattle.trig.specs.Tables.{recombination, twiddleRe, twiddleIm}
 use Rattle.complex_fft.specs.Reversal.{reversalTable, Reversed}
 use Rattle.rho_taps.specs.Update.{clearedOf}
-use Rattle.tau_steps.specs.Paths.{counted}
+use Rattle.tau_paths.specs.Paths.{counted}
 use Rattle.tau_state.specs.Constants.{oneMore32}
 use Rattle.tau_state.specs.declared.report.Outcome.the-variants.{Move}
 use Rattle.tau_block_laws.specs.Bounds.{Factor, Target}

@@ -10,12 +10,12 @@ use lib.ListN.{length}
 use Rattle.laws.specs.Choice.{pick}
 use Rattle.complex_fft.specs.Calls.{complexOf}
 use Rattle.fft.specs.Calls.{forwardOf, inverseOf, forwardWithOf, inverseWithOf, halfWithOf}
-use Rattle.rho.specs.Sample as sample
+use Rattle.rho_sample.specs.Sample as sample
 use Rattle.rho.specs.Calls as rho
-use Rattle.rho.specs.State as rhoStates
+use Rattle.rho_state.specs.State as rhoStates
 use Rattle.tau_state.specs.Ranges.{rangedOf}
 use Rattle.tau_state.specs.declared.state.TauCanceller.{TauCanceller}
-use Rattle.tau.specs.Fresh.{emptyOf}
+use Rattle.tau_fresh.specs.Fresh.{emptyOf}
 use Rattle.tau_frame.specs.Pairs.{Engine, deliversOf}
 use Rattle.tau.specs.Calls as tau
 

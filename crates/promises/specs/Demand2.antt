@@ -15,12 +15,12 @@ use Rattle.complex_fft.specs.ComplexFft.{runOf}
 use Rattle.complex_fft.specs.Calls.{complexOf}
 use Rattle.fft.specs.RealFft.{spectrumWith, samplesWith}
 use Rattle.fft.specs.Calls.{forwardOf, inverseOf, spectrumOf, samplesOf, forwardWithOf, inverseWithOf, halfOfSamples, halfWithOf}
-use Rattle.rho.specs.Sample as sample
+use Rattle.rho_sample.specs.Sample as sample
 use Rattle.rho.specs.Calls as rho
-use Rattle.rho.specs.State as rhoStates
+use Rattle.rho_state.specs.State as rhoStates
 use Rattle.rho_streams.specs.Stream as rhoStream
 use Rattle.tau_steps.specs.Bounds.{Leak}
-use Rattle.tau_steps.specs.Paths.{counted}
+use Rattle.tau_paths.specs.Paths.{counted}
 use Rattle.tau_state.specs.Report.{reportOf}
 use Rattle.tau_state.specs.declared.state.TauCanceller.{TauCanceller}
 use Rattle.tau_state.specs.declared.report.Outcome.the-variants.{NotRun, Move}

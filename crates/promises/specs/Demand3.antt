@@ -12,7 +12,7 @@ use Rattle.laws.specs.Kinds.{All}
 use Rattle.numbers.specs.Finite.{plus, finiteOrZero}
 use Rattle.numbers.specs.Zeros.{Fits, Still}
 use Rattle.streams.specs.Parts.{Part, Level, allNear, allFar}
-use Rattle.rho.specs.Sample as sample
+use Rattle.rho_sample.specs.Sample as sample
 use Rattle.rho.specs.Pairs as rhoPairs
 use Rattle.rho.specs.Calls as rho
 use Rattle.rho_taps.specs.Update.{clearedOf}

@@ -15,7 +15,7 @@ use lib.Seq.{drop-cons, drop-length, take-suc-set, drop-set-lt, drop-drop, appen
 use Rattle.laws.specs.Choice.{pick-if}
 use Rattle.numbers.specs.Finite.{finiteOrZero}
 use Rattle.rho_taps.specs.Ring.{nextOf}
-use Rattle.rho.specs.Sample.{Engine, afterOf, stepOf}
+use Rattle.rho_sample.specs.Sample.{Engine, afterOf, stepOf}
 use Rattle.rho.specs.Pairs.{pairsOf}
 
 pub record Going (e₀ : Engine) (near far out₀ : List Float) (k : ℕ) (e : Engine) (out : List Float) : Type 0 where

@@ -1,7 +1,7 @@
 -- M10: antt computes it. Assumes nothing.
 use mathlib.Core.Path.{refl}
 use Rattle.laws.specs.Choice.{pick}
-use Rattle.rho.specs.State.{tapsOf, hangoverOf}
+use Rattle.rho_state.specs.State.{tapsOf, hangoverOf}
 use Rattle.rho.specs.Calls.{settingsOf, sizedOf, createRefusal, createOf}
 use Rattle.rho.specs.Marked.{M10}
 

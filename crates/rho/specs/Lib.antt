@@ -1,5 +1,3 @@
-pub mod State
-pub mod Sample
 pub mod Pairs
 pub mod Calls
 pub mod Marked

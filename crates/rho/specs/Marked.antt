@@ -2,7 +2,7 @@
 use mathlib.Core.Path.{_≡_}
 use mathlib.Core.List.{[], _∷_}
 use lib.Ieee.{Float}
-use Rattle.rho.specs.State.{tapsOf, hangoverOf}
+use Rattle.rho_state.specs.State.{tapsOf, hangoverOf}
 use Rattle.rho.specs.Calls.{begunOf, createOf}
 
 -- M10 rate 16,000, tail 0: 1 tap, H 240. So creation with two buffers of one number, whatever they hold, is not refused, and leaves

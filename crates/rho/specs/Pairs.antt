@@ -2,7 +2,7 @@
 use mathlib.Core.List.{List, [], _∷_}
 use lib.Ieee.{Float}
 use Rattle.numbers.specs.Finite.{finiteOrZero}
-use Rattle.rho.specs.Sample.{Engine, stepOf}
+use Rattle.rho_sample.specs.Sample.{Engine, stepOf}
 
 pub record Run : Type 0 where
   pub engine : Engine

@@ -6,7 +6,7 @@ use Prim.Native.Nat.{ℕ}
 use lib.Ieee.{Float}
 use Rattle.rho.specs.declared.calls.Started.{Started}
 use Rattle.rho.specs.declared.calls.Answer.{Answer}
-use Rattle.rho.specs.Sample.{Engine}
+use Rattle.rho_sample.specs.Sample.{Engine}
 use Rattle.rho.specs.Calls.{createOf, processOf, flushOf, resetOf}
 
 -- of the rate and the tail

@@ -1,14 +1,14 @@
 // The public calls. A state goes in by value and comes back; the buffers are lent. A refused call writes nothing.
-use crate::refusals::create_refusal;
-use crate::refusals::process_refusal;
-use crate::refusals::state_refusal;
-use crate::sample::step;
-use crate::state::Report;
-use crate::state::RhoCanceller;
-use crate::state::empty;
-use crate::state::fresh;
-use crate::state::hangover_of;
-use crate::state::report_of;
+use rho_sample::sample::step;
+use rho_state::refusals::create_refusal;
+use rho_state::refusals::process_refusal;
+use rho_state::refusals::state_refusal;
+use rho_state::state::Report;
+use rho_state::state::RhoCanceller;
+use rho_state::state::empty;
+use rho_state::state::fresh;
+use rho_state::state::hangover_of;
+use rho_state::state::report_of;
 use rho_taps::update::clear;
 ghost use mathlib.Core.Path.{_≡_};
 ghost use mathlib.Core.List.{_++_};

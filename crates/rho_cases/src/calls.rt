@@ -6,9 +6,9 @@
 use crate::made::make;
 use crate::made::put_all;
 use rho::Answer;
-use rho::Report;
-use rho::RhoCanceller;
 use rho::Started;
+use rho_state::state::Report;
+use rho_state::state::RhoCanceller;
 ghost use mathlib.Core.Path.{_≡_};
 ghost use lib.ListN.{length};
 

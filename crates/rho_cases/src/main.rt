@@ -24,7 +24,7 @@ use calls::Found;
 use calls::Got;
 use calls::called;
 use cases::Tally;
-use rho::RhoCanceller;
+use rho_state::state::RhoCanceller;
 ghost use mathlib.Core.Path.{_≡_};
 ghost use lib.ListN.{length};
 

@@ -16,12 +16,12 @@ use lib.Ieee.{Float}
 use lib.ListN.{length, drop, length-append, length-drop}
 use lib.Seq.{take-at, drop-at}
 use Rattle.laws.specs.Choice.{pick-yes, pick-no, pick-if}
-use Rattle.rho.specs.State.{tapsOf, hangoverOf, emptyOf}
-use Rattle.rho.specs.Sample.{Engine}
+use Rattle.rho_state.specs.State.{tapsOf, hangoverOf, emptyOf}
+use Rattle.rho_sample.specs.Sample.{Engine}
 use Rattle.rho.specs.Pairs.{pairsOf}
 use Rattle.rho.specs.Calls.{createRefusal, Begun, Called, begunOf, createOf, resetOf, untouchedOf, processOf, flushOf}
 use Rattle.rho_streams.specs.Stream.{stateNumber, processNumber, servedOf, Delivery, waitsOf, ranBy, takenBy}
-use Rattle.rho.proofs.Accepted.{accepted-pairs}
+use Rattle.rho_state.proofs.Accepted.{accepted-pairs}
 
 -- A stream of N pairs gives N samples.
 pub delivers : (e : Engine) (near far : List Float) → length near ≡ length far → length (pairsOf e near far .samples) ≡ length near

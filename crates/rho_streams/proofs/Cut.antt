@@ -22,9 +22,9 @@ use Rattle.laws.specs.Choice.{pick-yes, pick-if, both}
 use Rattle.laws.specs.Loops.{length-over}
 use Rattle.laws.specs.Kinds.{All, all-none, all-cons}
 use Rattle.numbers.specs.Finite.{plus}
-use Rattle.rho.specs.declared.state.RhoCanceller.{RhoCanceller}
-use Rattle.rho.specs.State.{tapsOf, hangoverOf}
-use Rattle.rho.specs.Sample.{Engine, freezeOf, afterOf, stepOf}
+use Rattle.rho_state.specs.declared.state.RhoCanceller.{RhoCanceller}
+use Rattle.rho_state.specs.State.{tapsOf, hangoverOf}
+use Rattle.rho_sample.specs.Sample.{Engine, freezeOf, afterOf, stepOf}
 use Rattle.rho_taps.specs.Update.{Adapted, updatedOf, clearedOf, adaptedOf}
 use Rattle.rho.specs.Pairs.{Run, pairsOf}
 use Rattle.rho.specs.Calls.{settingsOf, sizedOf, rangedOf, createRefusal, stateRefusal, pairsRefusal, processRefusal, Called, begunOf, createOf, resetOf, processOf}
@@ -32,7 +32,7 @@ use Rattle.streams.specs.Parts.{Part, Level, Fair, allNear, allFar}
 use Rattle.streams.proofs.Parts.{parts-fair}
 use Rattle.rho_streams.specs.Stream.{begunBy, leftBy, ranBy, processNumber, Room, joined, thenOf, rowOf, AllAccepted, takenBy}
 use Rattle.rho.proofs.Going.{next-small}
-use Rattle.rho.proofs.Accepted.{Ranged, State, accepted-state, Pairs, accepted-pairs, taps-some}
+use Rattle.rho_state.proofs.Accepted.{Ranged, State, accepted-state, Pairs, accepted-pairs, taps-some}
 use Rattle.rho_streams.proofs.Counts.{delivers, create-answers, create-began, reset-answers, reset-began, process-answers, process-ran, process-delivers}
 
 -- ---- over the pairs

@@ -17,12 +17,12 @@ use lib.Dec.{eqb, ltb}
 use lib.Ieee.{Float}
 use lib.ListN.{length}
 use Rattle.laws.specs.Choice.{pick, pick-yes, pick-no}
-use Rattle.rho.specs.Sample.{Engine, freezeOf, afterOf, stepOf}
+use Rattle.rho_sample.specs.Sample.{Engine, freezeOf, afterOf, stepOf}
 use Rattle.rho_taps.specs.Update.{clearedOf, adaptedOf}
 use Rattle.rho.specs.Pairs.{pairsOf}
 use Rattle.rho.specs.Calls.{Called, processOf}
 use Rattle.rho_streams.specs.Stream.{takenBy, hangover, remaining, loudAt, errorAt, fineAt, updateAt, keptBy, updatedBy, loudsOf, AllQuiet}
-use Rattle.rho.proofs.Accepted.{accepted-pairs}
+use Rattle.rho_state.proofs.Accepted.{accepted-pairs}
 use Rattle.rho_streams.proofs.Counts.{process-answers, process-ran}
 
 -- ---- what a pair makes of the freeze

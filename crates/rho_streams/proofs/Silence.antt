@@ -26,15 +26,15 @@ use Rattle.numbers.proofs.Zeros.{pluses, plus-zero, zero-finite, zero-faint, ze
 use Rattle.numbers.proofs.Clean.{clean-finite, clean-same, clean-fits}
 use Rattle.numbers.proofs.Values.{sub-zero}
 use Rattle.numbers.proofs.Narrowed.{narrow-exact}
-use Rattle.rho.specs.State.{tapsOf, hangoverOf}
+use Rattle.rho_state.specs.State.{tapsOf, hangoverOf}
 use Rattle.rho_taps.specs.Ring.{slotOf, lagOf, estimateOf}
-use Rattle.rho.specs.Sample.{Engine, afterOf, stepOf}
+use Rattle.rho_sample.specs.Sample.{Engine, afterOf, stepOf}
 use Rattle.rho_taps.specs.Update.{Adapted, nudgeOf, updatedOf, soundOf, clearedOf, adaptedOf}
 use Rattle.rho.specs.Pairs.{pairsOf}
 use Rattle.rho.specs.Calls.{begunOf, createOf, resetOf}
 use Rattle.rho_streams.specs.Stream.{begunBy, Quiet, takenBy, placeOf, heardOf, errorAt}
 use Rattle.rho.proofs.Going.{next-small}
-use Rattle.rho.proofs.Accepted.{accepted-state, taps-some}
+use Rattle.rho_state.proofs.Accepted.{accepted-state, taps-some}
 use Rattle.rho_streams.proofs.Counts.{create-began, reset-answers, reset-began}
 use Rattle.rho_streams.proofs.Cut.{cut}
 

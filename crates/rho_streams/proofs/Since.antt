@@ -17,13 +17,13 @@ use Rattle.laws.specs.Choice.{pick-if}
 use Rattle.laws.specs.Kinds.{All}
 use Rattle.numbers.specs.Finite.{finiteOrZero}
 use Rattle.numbers.specs.Zeros.{Fits, Still}
-use Rattle.rho.specs.Sample.{Engine}
+use Rattle.rho_sample.specs.Sample.{Engine}
 use Rattle.rho.specs.Pairs.{Run, pairsOf}
 use Rattle.rho.specs.Calls.{Begun, createOf, resetOf, processOf}
 use Rattle.streams.specs.Parts.{Part}
 use Rattle.streams.proofs.Places.{take-map, alike-at}
 use Rattle.rho_streams.specs.Stream.{begunBy, ranBy, processNumber, waitsOf, joined, Call, feed, flush, reset, Since, anew, onward, afterCall, afterCalls, Quiet, Uncut}
-use Rattle.rho.proofs.Accepted.{accepted-state, accepted-pairs}
+use Rattle.rho_state.proofs.Accepted.{accepted-state, accepted-pairs}
 use Rattle.rho_streams.proofs.Counts.{delivers, reset-refused, process-answers, process-refused, flush-waits}
 use Rattle.rho_streams.proofs.Cut.{Ready, cut, pairs-ready, created-ready, reset-ready, ready-accepted, call-ran}
 use Rattle.rho_streams.proofs.Silence.{quiet-created, quiet-reset, passes-first}

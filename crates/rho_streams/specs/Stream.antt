@@ -13,7 +13,7 @@ use Rattle.numbers.specs.Finite.{isFinite, finiteOrZero}
 use Rattle.numbers.specs.Narrowing.{narrowOf}
 use Rattle.numbers.specs.Zeros.{Zero, Plus}
 use Rattle.rho_taps.specs.Ring.{nextOf, estimateOf, energyOf, peakOf}
-use Rattle.rho.specs.Sample.{Engine, Stepped, loudOf, stepOf}
+use Rattle.rho_sample.specs.Sample.{Engine, Stepped, loudOf, stepOf}
 use Rattle.rho_taps.specs.Update.{Adapted, scaleOf, updatedOf, soundOf, clearedOf}
 use Rattle.rho.specs.Pairs.{Run, pairsOf}
 use Rattle.rho.specs.Calls.{stateRefusal, processRefusal, Begun, Called, answerOf, resetOf, processOf, flushOf}

@@ -1,4 +1,3 @@
-pub mod Products
 pub mod Runs
 pub mod Groups
 pub mod Sums

@@ -1,7 +1,5 @@
 // TauCanceller: the block engine with the house detector.
 mod calls;
-mod fresh;
-mod refusals;
 
 pub use calls::Answer;
 pub use calls::Started;

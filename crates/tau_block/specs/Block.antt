@@ -10,10 +10,10 @@ use Rattle.tau_state.specs.declared.state.TauCanceller.{TauCanceller}
 use Rattle.tau_state.specs.declared.state.Mic.{Mic}
 use Rattle.tau_state.specs.declared.state.Detector.{Detector}
 use Rattle.tau_state.specs.declared.report.Outcome.{Outcome}
-use Rattle.tau_steps.specs.Detector.{judged, established}
-use Rattle.tau_steps.specs.Paths.{compared}
-use Rattle.tau_steps.specs.Guard.{guarded}
-use Rattle.tau_steps.specs.Powers.{hosted}
+use Rattle.tau_detector.specs.Detector.{judged, established}
+use Rattle.tau_paths.specs.Paths.{compared}
+use Rattle.tau_guard.specs.Guard.{guarded}
+use Rattle.tau_guard.specs.Powers.{hosted}
 use Rattle.tau_spectra.specs.Ring.{Ring, ringOf}
 use Rattle.tau_spectra.specs.Far.{hearFar}
 use Rattle.tau_filter.specs.Filter.{shadowed, estimated}

@@ -9,10 +9,10 @@ use Rattle.tau_state.specs.declared.state.Mic.{Mic}
 use Rattle.tau_state.specs.declared.state.Detector.{Detector}
 use Rattle.tau_state.specs.declared.state.Paths.{Paths}
 use Rattle.tau_state.specs.declared.state.Powers.{Powers}
-use Rattle.tau_steps.specs.Detector.{judged, established}
-use Rattle.tau_steps.specs.Paths.{Comparison, compared}
-use Rattle.tau_steps.specs.Guard.{Guarded, guarded}
-use Rattle.tau_steps.specs.Powers.{hosted}
+use Rattle.tau_detector.specs.Detector.{judged, established}
+use Rattle.tau_paths.specs.Paths.{Comparison, compared}
+use Rattle.tau_guard.specs.Guard.{Guarded, guarded}
+use Rattle.tau_guard.specs.Powers.{hosted}
 use Rattle.tau_spectra.specs.Ring.{Ring}
 use Rattle.tau_filter.specs.Filter.{Estimated, shadowed, estimated}
 use Rattle.tau_update.specs.Update.{Updated, updated}

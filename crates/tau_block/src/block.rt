@@ -1,8 +1,13 @@
 // A microphone's part of a block: document 01's steps 2, 3 and 5 to 9. A condition of a step goes to it as a `bool`, so that nothing
 // branches here.
+use tau_detector::detector::double_talk_block;
 use tau_filter::filter::Checked;
 use tau_filter::filter::output_estimate;
 use tau_filter::filter::shadow_estimate;
+use tau_guard::guard::guard;
+use tau_guard::powers::host_powers;
+use tau_paths::paths::Compared;
+use tau_paths::paths::compare;
 use tau_state::report::Outcome;
 use tau_state::state::DTD_ESTABLISH_BLOCKS;
 use tau_state::state::Detector;
@@ -11,11 +16,6 @@ use tau_state::state::MicRest;
 use tau_state::state::Paths;
 use tau_state::state::Powers;
 use tau_state::sums::energy;
-use tau_steps::detector::double_talk_block;
-use tau_steps::guard::guard;
-use tau_steps::paths::Compared;
-use tau_steps::paths::compare;
-use tau_steps::powers::host_powers;
 use tau_suppressor::suppressor::suppress;
 use tau_update::update::adapt_shadow;
 ghost use mathlib.Core.Path.{_≡_};

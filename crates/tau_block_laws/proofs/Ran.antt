@@ -14,7 +14,7 @@ use Rattle.tau_state.specs.declared.report.Outcome.{Outcome}
 use Rattle.tau_state.specs.declared.report.Outcome.the-variants.{NoMove, Rescue, Move}
 use Rattle.tau_steps.specs.Bounds.{Leak}
 use Rattle.tau_steps.proofs.Bounds.{leak-bounds}
-use Rattle.tau_steps.specs.Paths.{Comparison, advantageOf, verdict, counted, acted, compared}
+use Rattle.tau_paths.specs.Paths.{Comparison, advantageOf, verdict, counted, acted, compared}
 use Rattle.tau_block.specs.Block.{Block, Playing, Microphone, Engine, listen, runBlock}
 
 module _ (Q : Outcome → Type 0) (none : Q NoMove) (rescue : Q Rescue) (move : (leak : Float) → Leak leak → Q (Move leak)) where

@@ -20,8 +20,8 @@ use Rattle.tau_state.specs.declared.state.Mic.{Mic}
 use Rattle.tau_state.specs.declared.state.Paths.{Paths}
 use Rattle.tau_state.specs.declared.state.Suppressor.{Suppressor}
 use Rattle.tau_state.specs.declared.state.Guard.{Guard}
-use Rattle.tau_steps.specs.Clears.{ShadowClear, BothClear, OutputHalved, divergeShadow, divergeOf, retireOutput}
-use Rattle.tau_steps.specs.Guard.{Guarded, watched, trips, guarded}
+use Rattle.tau_clears.specs.Clears.{ShadowClear, BothClear, OutputHalved, divergeShadow, divergeOf, retireOutput}
+use Rattle.tau_guard.specs.Guard.{Guarded, watched, trips, guarded}
 use Rattle.tau_spectra.specs.Ring.{Ring}
 use Rattle.tau_filter.specs.Filter.{Shadowed, Estimated, estimateOf, badTo, shadowed, estimated}
 use Rattle.tau_update.specs.Update.{Updated, learntBy, updated}

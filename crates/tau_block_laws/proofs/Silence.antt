@@ -25,12 +25,12 @@ use Rattle.numbers.proofs.Values.{sub-zero}
 use Rattle.numbers.proofs.Zeros.{faints, pluses, plus-zero, plus-add, plus-mul, plus-blank, plus-faint, zero-faint, zero-finite, zero-ne, zero-square, finite-true}
 use Rattle.fft.specs.Calls.{samplesOf}
 use Rattle.fft.proofs.Silence.{silent-spectrum, silent-samples, faint-spectrum, faint-samples}
-use Rattle.tau_steps.specs.Clears.{divergeShadow, retireOutput}
+use Rattle.tau_clears.specs.Clears.{divergeShadow, retireOutput}
 use Rattle.tau_state.specs.Constants.{zero32, zero64, f0·5}
-use Rattle.tau_steps.specs.Guard.{Guarded, replaced, guarded}
-use Rattle.tau_steps.specs.Paths.{Comparison, shadowAfter, outputAfter, acted, compared}
+use Rattle.tau_guard.specs.Guard.{Guarded, replaced, guarded}
+use Rattle.tau_paths.specs.Paths.{Comparison, shadowAfter, outputAfter, acted, compared}
 use Rattle.tau_state.specs.Sums.{energyOf}
-use Rattle.tau_steps.specs.Weights.{cleared, halved}
+use Rattle.tau_clears.specs.Weights.{cleared, halved}
 use Rattle.tau_state.specs.declared.state.Guard.{Guard}
 use Rattle.tau_state.specs.declared.state.Mic.{Mic}
 use Rattle.tau_state.specs.declared.state.Paths.{Paths}

@@ -12,8 +12,8 @@ use Rattle.tau_state.specs.Sums.{energyOf}
 use Rattle.tau_state.specs.declared.state.Paths.{Paths}
 use Rattle.tau_state.specs.declared.state.Suppressor.{Suppressor}
 use Rattle.tau_state.specs.declared.state.Guard.{Guard}
-use Rattle.tau_steps.specs.Clears.{ShadowClear, BothClear, OutputHalved, divergeShadow, divergeOf, retireOutput}
-use Rattle.tau_steps.specs.Guard.{watched, trips, guarded}
+use Rattle.tau_clears.specs.Clears.{ShadowClear, BothClear, OutputHalved, divergeShadow, divergeOf, retireOutput}
+use Rattle.tau_guard.specs.Guard.{watched, trips, guarded}
 use Rattle.tau_spectra.specs.Ring.{Ring, ringOf}
 use Rattle.tau_spectra.specs.Far.{hearFar}
 use Rattle.tau_filter.specs.Filter.{shadowed, estimated}

@@ -15,7 +15,7 @@ use Rattle.fft.specs.Calls.{samplesOf}
 use Rattle.tau_state.specs.Constants.{zero32, zero64}
 use Rattle.tau_state.specs.declared.state.Paths.{Paths}
 use Rattle.tau_state.specs.declared.state.Suppressor.{Suppressor}
-use Rattle.tau_steps.specs.Clears.{divergeShadow, divergeOf}
+use Rattle.tau_clears.specs.Clears.{divergeShadow, divergeOf}
 use Rattle.tau_spectra.specs.Windows.{latter}
 use Rattle.tau_spectra.specs.Ring.{Ring, metBy}
 

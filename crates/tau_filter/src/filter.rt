@@ -1,12 +1,12 @@
 // Steps 2 and 3: the estimates and the errors.
 use complex::Complex;
+use tau_clears::clears::diverge;
+use tau_clears::clears::diverge_shadow;
 use tau_spectra::bins::get;
 use tau_spectra::bins::put;
 use tau_spectra::ring::slot_of;
 use tau_spectra::transform::later_half;
 use tau_state::state::Paths;
-use tau_steps::clears::diverge;
-use tau_steps::clears::diverge_shadow;
 ghost use mathlib.Core.Path.{_≡_};
 ghost use Prim.Native.Nat.{_≤_, _<_, _*_};
 ghost use lib.ListN.{length};

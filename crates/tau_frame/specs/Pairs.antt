@@ -3,7 +3,7 @@
 -- remainder." Definitions only.
 use mathlib.Core.Bool.{Bool, true, false}
 use mathlib.Core.List.{List, [], _∷_, _++_}
-use Prim.Native.Nat.{ℕ, _+_, _-_, _*_, _/_}
+use Prim.Native.Nat.{ℕ, _+_, _-_}
 use lib.Dec.{eqb}
 use lib.ListN.{set, take, replicate}
 use lib.Ieee.{Float}
@@ -15,6 +15,7 @@ use Rattle.tau_state.specs.declared.report.Outcome.{Outcome}
 use Rattle.tau_state.specs.declared.report.Outcome.the-variants.{NotRun, NoMove, Rescue, Move}
 use Rattle.tau_block.specs.Block.{runBlock}
 pub use Rattle.tau_block.specs.Block.{Engine}
+pub use Rattle.tau_fresh.specs.Refusals.{deliversOf}
 
 -- what pairs, or a flush, make of it: the engine after them, the samples delivered, and what the last block did
 pub record Run : Type 0 where
@@ -89,7 +90,3 @@ flushedOf e =
     let s = e .state in
     let n = s .carried in
     pick (eqb n 0) (waitsOf e) (blockOf e (padded (s .«near_carry») n) (padded (s .«far_carry») n) n false)
-
--- what a process of so many pairs would deliver: the whole blocks
-abbrev pub deliversOf : ℕ → ℕ → ℕ
-deliversOf carried pairs = (carried + pairs) / 256 * 256

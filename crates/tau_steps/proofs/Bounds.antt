@@ -24,10 +24,10 @@ use Rattle.numbers.proofs.Ordered.{total, min-right, same-of-le}
 use Rattle.tau_state.specs.Constants.{zero64, f0·1, f0·5, f0·75}
 use Rattle.tau_steps.specs.Bounds.{Leak}
 use Rattle.tau_state.specs.Sums.{energyOf}
-use Rattle.tau_steps.specs.Clears.{divergeShadow, divergeOf, retireOutput}
-use Rattle.tau_steps.specs.Detector.{countOf, learned, stands, judged}
-use Rattle.tau_steps.specs.Paths.{weighed, leakOf, advantageOf, verdict, settled, Comparison, acted, compared}
-use Rattle.tau_steps.specs.Guard.{watched, trips, Guarded, guarded}
+use Rattle.tau_clears.specs.Clears.{divergeShadow, divergeOf, retireOutput}
+use Rattle.tau_detector.specs.Detector.{countOf, learned, stands, judged}
+use Rattle.tau_paths.specs.Paths.{weighed, leakOf, advantageOf, verdict, settled, Comparison, acted, compared}
+use Rattle.tau_guard.specs.Guard.{watched, trips, Guarded, guarded}
 use Rattle.tau_state.specs.declared.state.Detector.{Detector}
 use Rattle.tau_state.specs.declared.state.Guard.{Guard}
 use Rattle.tau_state.specs.declared.state.Paths.{Paths}

@@ -12,10 +12,10 @@ use Rattle.laws.specs.Choice.{pick-if}
 use Rattle.laws.specs.Loops.{length-over}
 use Rattle.tau_state.specs.Constants.{zero64, f0·5}
 use Rattle.tau_state.specs.Sums.{energyOf}
-use Rattle.tau_steps.specs.Weights.{cleared, halved, leaked}
-use Rattle.tau_steps.specs.Clears.{divergeShadow, divergeOf, retireOutput}
-use Rattle.tau_steps.specs.Paths.{weighed, verdict, shadowAfter, outputAfter, Comparison, acted, compared}
-use Rattle.tau_steps.specs.Guard.{watched, trips, replaced, Guarded, guarded}
+use Rattle.tau_clears.specs.Weights.{cleared, halved, leaked}
+use Rattle.tau_clears.specs.Clears.{divergeShadow, divergeOf, retireOutput}
+use Rattle.tau_paths.specs.Paths.{weighed, verdict, shadowAfter, outputAfter, Comparison, acted, compared}
+use Rattle.tau_guard.specs.Guard.{watched, trips, replaced, Guarded, guarded}
 use Rattle.tau_state.specs.declared.state.Guard.{Guard}
 use Rattle.tau_state.specs.declared.state.Paths.{Paths}
 use Rattle.tau_state.specs.declared.state.Suppressor.{Suppressor}

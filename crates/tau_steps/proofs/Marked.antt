@@ -3,7 +3,7 @@ use mathlib.Core.Path.{refl}
 use lib.Ieee.{ofBits, mul, div, lt, isNan}
 use Rattle.laws.specs.Choice.{pick}
 use Rattle.numbers.specs.Order.{minOf}
-use Rattle.tau_steps.specs.Paths.{leakOf}
+use Rattle.tau_paths.specs.Paths.{leakOf}
 use Rattle.tau_steps.specs.Marked.{M11}
 use Rattle.tau_steps.proofs.Bounds.{leak-most}
 

@@ -5,7 +5,7 @@ use mathlib.Core.Bool.{false}
 use lib.Dec.{T}
 use lib.IntN.{negsuc}
 use lib.Ieee.{Float, fin, le}
-use Rattle.tau_steps.specs.Paths.{leakOf}
+use Rattle.tau_paths.specs.Paths.{leakOf}
 
 -- M11 leak at advantage 0.25: 0.375; at 0.5 and above: 0.75. So at every advantage from 0.5 on, an infinite one too.
 abbrev pub M11 : Type 0

@@ -23,12 +23,13 @@ use Rattle.tau_state.specs.Ranges.{Ranged}
 use Rattle.tau_state.specs.declared.state.TauCanceller.{TauCanceller}
 use Rattle.tau_block.specs.Block.{runBlock}
 use Rattle.tau_block_laws.proofs.Kept.{ranges-kept, lengths-kept, length-block}
-use Rattle.tau.specs.Fresh.{freshMic, freshOf}
+use Rattle.tau_fresh.specs.Fresh.{freshMic, freshOf}
 use Rattle.tau_frame.specs.Pairs.{Engine, Run, waitsOf, carrying, emptied, blockOf, fillOf, pairOf, pairsOf, flushedOf, deliversOf}
 use Rattle.tau.specs.Calls.{createRefusal, begunOf, createOf, resetOf, refusedOf, servedOf, processOf, flushOf}
 use Rattle.tau_streams.specs.Stream.{Intact, Good, begunBy, withCarry, Delivery}
 use Rattle.tau.specs.Calls.{stateNumber, processNumber, flushNumber}
-use Rattle.tau.proofs.Accepted.{accepted-state, state-accepted, accepted-pairs, accepted-flush, accepted-settings, create-began, reset-began, process-ran, flush-ran}
+use Rattle.tau_fresh.proofs.Accepted.{accepted-state, state-accepted, accepted-pairs, accepted-flush, accepted-settings}
+use Rattle.tau.proofs.Accepted.{create-began, reset-began, process-ran, flush-ran}
 
 -- ---- a block
 

@@ -24,7 +24,8 @@ use Rattle.streams.proofs.Parts.{parts-fair}
 use Rattle.tau_streams.specs.Stream.{Intact, leftBy, ranBy, Roomy, joined, thenOf, rowOf, AllAccepted}
 use Rattle.tau.specs.Calls.{processNumber}
 use Rattle.tau_frame.proofs.Later.{last-first, last-assoc}
-use Rattle.tau.proofs.Accepted.{Process, state-accepted, accepted-pairs, process-accepted, process-answers, process-ran}
+use Rattle.tau_fresh.proofs.Accepted.{Process, state-accepted, accepted-pairs, process-accepted}
+use Rattle.tau.proofs.Accepted.{process-answers, process-ran}
 use Rattle.tau_streams.proofs.Counts.{pairs-intact, state-intact, delivers, carries}
 
 -- ---- over the pairs

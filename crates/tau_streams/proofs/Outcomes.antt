@@ -25,7 +25,8 @@ use Rattle.tau_frame.specs.Pairs.{Engine, Run, blockOf, fillOf, pairOf, lastOf,
 use Rattle.tau.specs.Calls.{Called, processOf, flushOf}
 use Rattle.tau_streams.specs.Stream.{ranBy, joined}
 use Rattle.tau.specs.Calls.{processNumber, flushNumber}
-use Rattle.tau.proofs.Accepted.{accepted-pairs, flush-ran}
+use Rattle.tau_fresh.proofs.Accepted.{accepted-pairs}
+use Rattle.tau.proofs.Accepted.{flush-ran}
 use Rattle.tau_streams.proofs.Counts.{block-delivers, delivers, flushed-waits}
 use Rattle.tau_streams.proofs.Cut.{served-ran, call-ran}
 

@@ -35,7 +35,7 @@ use Rattle.tau_block.specs.Block.{Block}
 use Rattle.tau_block_laws.specs.Silence.{Near, Silent}
 use Rattle.tau_block_laws.proofs.Ran.{ran-handed}
 use Rattle.tau_block_laws.proofs.Silence.{cleared-silent, block-passed}
-use Rattle.tau.specs.Fresh.{freshMic, freshOf}
+use Rattle.tau_fresh.specs.Fresh.{freshMic, freshOf}
 use Rattle.tau_frame.specs.Pairs.{Engine, Run, waitsOf, carrying, emptied, blockOf, fillOf, pairOf, pairsOf, padded, flushedOf, deliversOf}
 use Rattle.tau.specs.Calls.{begunOf, processOf, flushOf}
 use Rattle.streams.specs.Parts.{Part}
@@ -43,7 +43,8 @@ use Rattle.streams.proofs.Sounds.{minus, still-zero}
 use Rattle.streams.proofs.Places.{alike-at}
 use Rattle.tau_streams.specs.Stream.{begunBy, ranBy, cleanOf, joined, Call, feed, flush, reset}
 use Rattle.tau_streams.specs.Silence.{heldNear, heldFar, Hushed, Begins, created, renewed, Passes, Emptied, madeBy, refusalBy, callsOf, AllTaken, takenOf, filledBy, givenOf, Gentle}
-use Rattle.tau.proofs.Accepted.{accepted-state, accepted-settings, accepted-pairs, create-answers, create-began, reset-answers, reset-began, reset-refused, process-answers, process-refused, flush-answers, flush-ran, flush-refused}
+use Rattle.tau_fresh.proofs.Accepted.{accepted-state, accepted-settings, accepted-pairs}
+use Rattle.tau.proofs.Accepted.{create-answers, create-began, reset-answers, reset-began, reset-refused, process-answers, process-refused, flush-answers, flush-ran, flush-refused}
 use Rattle.tau_streams.proofs.Counts.{block-delivers, delivers}
 use Rattle.tau_streams.proofs.Cut.{joined-first, cut, served-ran, call-ran}
 

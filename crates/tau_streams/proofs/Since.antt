@@ -24,7 +24,8 @@ use Rattle.tau.specs.Calls.{createRefusal, createOf, resetOf, refusedOf, proces
 use Rattle.streams.specs.Parts.{Part}
 use Rattle.tau_streams.specs.Stream.{Good, begunBy, leftBy, ranBy, Delivery, joined, cleanOf, blocksOf, byBlocks, paddedRest, Call, feed, flush, reset, Since, anew, onward, afterCall, afterCalls, Uncut}
 use Rattle.tau.specs.Calls.{stateNumber, processNumber, flushNumber}
-use Rattle.tau.proofs.Accepted.{accepted-pairs, process-answers, process-refused, flush-answers, flush-ran, flush-refused, reset-answers, reset-refused}
+use Rattle.tau_fresh.proofs.Accepted.{accepted-pairs}
+use Rattle.tau.proofs.Accepted.{process-answers, process-refused, flush-answers, flush-ran, flush-refused, reset-answers, reset-refused}
 use Rattle.tau_streams.proofs.Counts.{pairs-intact, flushed-intact, created-good, created-empty, reset-good, reset-empty, delivers, carries, flushed-empties, flush-delivers}
 use Rattle.tau_streams.proofs.Cut.{joined-last, cut, call-ran}
 use Rattle.tau_streams.proofs.Blocks.{stream-blocks, rest-flushed}

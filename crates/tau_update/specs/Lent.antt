@@ -5,7 +5,7 @@ use Prim.Native.Nat.{ℕ}
 use lib.Ieee.{Float}
 use Rattle.laws.specs.Choice.{pick}
 use Rattle.tau_state.specs.declared.state.Paths.{Paths}
-use Rattle.tau_steps.specs.Clears.{divergeShadow}
+use Rattle.tau_clears.specs.Clears.{divergeShadow}
 use Rattle.tau_update.specs.Update.{Updated}
 use Rattle.tau_update.specs.declared.update.UpdatedRest.{UpdatedRest}
 

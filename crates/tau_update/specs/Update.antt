@@ -15,7 +15,7 @@ use Rattle.complex.specs.Complexes.{newC, getC, scaleC}
 use Rattle.fft.specs.Calls.{spectrumOf, samplesOf}
 use Rattle.tau_state.specs.Constants.{zero32, zero64, one, f0·001, f0·02, f0·98, smoothBy}
 use Rattle.tau_state.specs.declared.state.Paths.{Paths}
-use Rattle.tau_steps.specs.Clears.{divergeShadow}
+use Rattle.tau_clears.specs.Clears.{divergeShadow}
 use Rattle.tau_spectra.specs.Bins.{powerAt}
 use Rattle.tau_spectra.specs.Ring.{Ring, metBy}
 

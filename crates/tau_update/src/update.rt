@@ -1,5 +1,6 @@
 // Step 6: the normalized update of the shadow, with the gradient constraint.
 use complex::Complex;
+use tau_clears::clears::diverge_shadow;
 use tau_spectra::bins::get;
 use tau_spectra::bins::power;
 use tau_spectra::bins::put;
@@ -9,7 +10,6 @@ use tau_spectra::transform::slide;
 use tau_spectra::transform::spectrum;
 use tau_state::state::Paths;
 use tau_state::sums::smooth;
-use tau_steps::clears::diverge_shadow;
 ghost use mathlib.Core.Path.{_≡_};
 ghost use Prim.Native.Nat.{_≤_, _<_, _*_};
 ghost use lib.ListN.{length, drop, replicate};

@@ -4,7 +4,7 @@ use borrow.Author.Needs.{needs}
 use borrow.Author.Tests.{eq-eqb, ne-eqb}
 use Rattle.laws.specs.Choice.{pick-yes, pick-no}
 use Rattle.rho.specs.Calls.{createOf}
-use Rattle.rho.proofs.Accepted.{accepted-settings}
+use Rattle.rho_state.proofs.Accepted.{accepted-settings}
 use Rattle.rho.proofs.calls.create.Statement.{statement}
 use Rattle.rho.proofs.calls.create.Tie as tie
 

@@ -3,7 +3,7 @@ use borrow.Author.Needs.{needs}
 use borrow.Author.Tests.{eq-eqb, ne-eqb}
 use Rattle.laws.specs.Choice.{pick-yes, pick-no}
 use Rattle.rho.specs.Calls.{processOf}
-use Rattle.rho.proofs.Accepted.{accepted-pairs}
+use Rattle.rho_state.proofs.Accepted.{accepted-pairs}
 use Rattle.rho.proofs.calls.process.Statement.{statement}
 use Rattle.rho.proofs.calls.process.Tie as tie
 

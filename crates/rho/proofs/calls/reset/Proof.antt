@@ -3,7 +3,7 @@ use borrow.Author.Needs.{needs}
 use borrow.Author.Tests.{eq-eqb, ne-eqb}
 use Rattle.laws.specs.Choice.{pick-yes, pick-no}
 use Rattle.rho.specs.Calls.{resetOf}
-use Rattle.rho.proofs.Accepted.{accepted-state}
+use Rattle.rho_state.proofs.Accepted.{accepted-state}
 use Rattle.rho.proofs.calls.reset.Statement.{statement}
 use Rattle.rho.proofs.calls.reset.Tie as tie
 

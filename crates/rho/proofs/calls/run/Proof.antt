@@ -3,7 +3,7 @@ use Prim.Native.Nat.{ℕ, _-_, _≤_, _<_}
 use native.Mathlib.Omega.{arith}
 use borrow.Author.Needs.{needs}
 use lib.ListN.{length, length-set}
-use Rattle.rho.specs.Sample.{Stepped}
+use Rattle.rho_sample.specs.Sample.{Stepped}
 use Rattle.rho.proofs.Going.{Going, going-start, going-turn, going-end, step-taps, step-ring}
 use Rattle.rho.proofs.calls.run.Statement.{statement}
 use Rattle.rho.proofs.calls.run.Tie as tie

@@ -2,7 +2,7 @@ use mathlib.Core.Path.{_≡_, refl, sym, _∙_}
 use borrow.Author.Tests.{eq-eqb, ne-eqb}
 use Rattle.laws.specs.Choice.{pick-yes, pick-no}
 use Rattle.tau.specs.Calls.{flushOf}
-use Rattle.tau.proofs.Accepted.{accepted-flush}
+use Rattle.tau_fresh.proofs.Accepted.{accepted-flush}
 use Rattle.tau.proofs.Served.{served-is}
 use borrow.Author.Needs.{needs}
 use Rattle.tau.proofs.calls.flush_lent.Statement.{statement}

@@ -6,7 +6,7 @@ use Rattle.laws.specs.Choice.{pick-yes, pick-no}
 use Rattle.tau_state.specs.Lent.{suppressorOf}
 use Rattle.tau_frame.specs.Lent.{engineOf}
 use Rattle.tau.specs.Calls.{processOf}
-use Rattle.tau.proofs.Accepted.{accepted-pairs}
+use Rattle.tau_fresh.proofs.Accepted.{accepted-pairs}
 use Rattle.tau.proofs.Served.{served-is}
 use Rattle.tau.proofs.Served.{served-waits}
 use borrow.Author.Needs.{needs}

@@ -1,9 +1,9 @@
 use Rattle.tau.specs.Calls.{resetOf}
-use Rattle.tau_steps.specs.Weights.{cleared}
+use Rattle.tau_clears.specs.Weights.{cleared}
 use borrow.Author.Tests.{not-true, not-false, eq-eqb, ne-eqb, lt-leb, le-leb}
 use Rattle.laws.specs.Choice.{pick-yes, pick-no, choices}
 use mathlib.Core.Path.{_≡_, refl, sym, _∙_}
-use Rattle.tau.proofs.Accepted.{accepted-state}
+use Rattle.tau_fresh.proofs.Accepted.{accepted-state}
 use borrow.Author.Needs.{needs}
 use Rattle.tau.proofs.calls.reset.Statement.{statement}
 use Rattle.tau.proofs.calls.reset.Tie as tie

@@ -1,0 +1,2 @@
+// One pair of RhoCanceller.
+pub mod sample;

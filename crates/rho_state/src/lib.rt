@@ -1,0 +1,3 @@
+// RhoCanceller's state and settings, and the refusals of its calls.
+pub mod refusals;
+pub mod state;
