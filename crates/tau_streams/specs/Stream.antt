@@ -104,12 +104,12 @@ blocksOf (suc k) e near far =
     let b = blockOn e (take 256 near) (take 256 far) in
     joined b (blocksOf k (b .engine) (drop 256 near) (drop 256 far))
 
--- A carry l of 256 places after k blocks of a stream and the pairs behind them, too few for a block: these stand at its front, and
--- behind them what was last written there, which is the last block's samples, or as it was where there was none.
+-- what k blocks of a stream last wrote to a carry l of 256 places: the last block's samples, and nothing where there was none
 unfoldable pub writtenTo : ℕ → List Float → List Float → List Float
 writtenTo zero l stream = l
 writtenTo (suc k) l stream = cleanOf (take 256 (drop (256 * k) stream))
 
+-- the carry after k blocks and the pairs behind them, too few for a block: these stand at its front, and what was last written behind them
 abbrev pub carryOf : ℕ → List Float → List Float → List Float
 carryOf k l stream = let rest = drop (256 * k) stream in cleanOf rest ++ drop (length rest) (writtenTo k l stream)
 
