@@ -20,7 +20,7 @@ use Rattle.rho_streams.specs.Stream as rhoStream
 use Rattle.tau_steps.specs.Ranges.{rangedOf}
 use Rattle.tau_frame.specs.Pairs.{Engine, deliversOf, blockOf, flushedOf}
 use Rattle.tau.specs.Calls as tau
-use Rattle.tau_streams.specs.Stream.{Roomy, rowOf, AllAccepted, ranBy, begunBy, Call, Since, anew, afterCalls, byBlocks, paddedRest}
+use Rattle.tau_streams.specs.Stream.{Roomy, processedOf, AllAccepted, ranBy, begunBy, Call, Since, anew, afterCalls, byBlocks, paddedRest}
 use Rattle.tau_streams.specs.Stream.Call.{feed, flush}
 use Rattle.tau_streams.specs.Silence.{Begins, callsOf, AllTaken, takenOf, givenOf, Gentle, filledBy}
 use Rattle.promises.specs.Demand1.{tauSized, rhoSized}
@@ -65,13 +65,13 @@ TauCalls =
 -- any two ways to cut a stream into accepted calls give the same samples, state, buffers and last outcome,
 abbrev pub TauCuts : Type 0
 TauCuts = (e : Engine) (ps qs : List Part) → AllAccepted e ps → AllAccepted e qs → allNear ps ≡ allNear qs → allFar ps ≡ allFar qs
-    → rowOf e ps .run ≡ rowOf e qs .run
+    → processedOf e ps .run ≡ processedOf e qs .run
 
 -- and the parts of an accepted call are accepted where each has its room, and come to the same
 abbrev pub TauParts : Type 0
 TauParts = (e : Engine) (ps : List Part) (out : List Float) → All Level ps → Roomy (e .state .carried) ps
     → tau.processOf e (allNear ps) (allFar ps) out .answer .refusal ≡ 0
-    → AllAccepted e ps × (rowOf e ps .run ≡ ranBy (tau.processOf e (allNear ps) (allFar ps) out))
+    → AllAccepted e ps × (processedOf e ps .run ≡ ranBy (tau.processOf e (allNear ps) (allFar ps) out))
 
 -- ---- the singer, for TauCanceller
 
@@ -146,18 +146,18 @@ RhoFlush = (e : sample.Engine)
 
 -- from any state: a sample for each pair of accepted calls,
 abbrev pub RhoCounts : Type 0
-RhoCounts = (e : sample.Engine) (ps : List Part) → rhoStream.AllAccepted e ps → length (rhoStream.rowOf e ps .run .samples) ≡ length (allNear ps)
+RhoCounts = (e : sample.Engine) (ps : List Part) → rhoStream.AllAccepted e ps → length (rhoStream.processedOf e ps .run .samples) ≡ length (allNear ps)
 
 -- any two ways to cut a stream into accepted calls give the same samples, state and buffers,
 abbrev pub RhoCuts : Type 0
 RhoCuts = (e : sample.Engine) (ps qs : List Part) → rhoStream.AllAccepted e ps → rhoStream.AllAccepted e qs
-    → allNear ps ≡ allNear qs → allFar ps ≡ allFar qs → rhoStream.rowOf e ps .run ≡ rhoStream.rowOf e qs .run
+    → allNear ps ≡ allNear qs → allFar ps ≡ allFar qs → rhoStream.processedOf e ps .run ≡ rhoStream.processedOf e qs .run
 
 -- and the parts of an accepted call are accepted where each has its room, and come to the same
 abbrev pub RhoParts : Type 0
 RhoParts = (e : sample.Engine) (ps : List Part) (out : List Float) → All Level ps → All rhoStream.Room ps
     → rho.processOf e (allNear ps) (allFar ps) out .answer .refusal ≡ 0
-    → rhoStream.AllAccepted e ps × (rhoStream.rowOf e ps .run ≡ rhoStream.ranBy (rho.processOf e (allNear ps) (allFar ps) out))
+    → rhoStream.AllAccepted e ps × (rhoStream.processedOf e ps .run ≡ rhoStream.ranBy (rho.processOf e (allNear ps) (allFar ps) out))
 
 -- ---- Rho's freeze
 
