@@ -6,11 +6,11 @@ use mathlib.Core.Path.{_≡_}
 use mathlib.Core.Bool.{Bool, true, false}
 use mathlib.Core.List.{List, [], _∷_, _++_, map}
 use Prim.Native.Nat.{ℕ, _+_, _-_, _*_, _/_, _%_, _≤_, _<_}
-use lib.Ieee.{Float, nan, inf, binary32, ofBits}
+use lib.Ieee.{Float, nan, binary32, ofBits}
 use lib.ListN.{length, getD, take}
 use Rattle.laws.specs.Kinds.{All}
-use Rattle.numbers.specs.Finite.{plus, finiteOrZero}
-use Rattle.numbers.specs.Zeros.{Fits, Still}
+use Rattle.numbers.specs.Finite.{plus, isFinite, finiteOrZero}
+use Rattle.numbers.specs.Zeros.{Zero, Fits, Still}
 use Rattle.streams.specs.Parts.{Part, Level, allNear, allFar}
 use Rattle.rho.specs.Sample as sample
 use Rattle.rho.specs.Pairs as rhoPairs
@@ -75,10 +75,15 @@ TauParts = (e : Engine) (ps : List Part) (out : List Float) → All Level ps →
 
 -- ---- the singer, for TauCanceller
 
--- What is no sound: 0.0, -0.0, NaN and the infinities, which are read as 0.0. And a near -0.0 is read as it is.
+-- What is no sound: 0.0, -0.0, and what is not finite; of the finite samples only zeros. And a near -0.0 is read as it is.
 abbrev pub Sounds : Type 0
-Sounds = let minus = ofBits binary32 0x8000_0000 in
-    Still plus × Still minus × Still nan × ((s : Bool) → Still (inf s)) × (finiteOrZero minus ≡ minus)
+Sounds =
+    let minus = ofBits binary32 0x8000_0000 in
+    Still plus
+    × Still minus
+    × ((y : Float) → isFinite y ≡ false → Still y)
+    × ((y : Float) → Still y → isFinite y ≡ true → Zero y)
+    × (finiteOrZero minus ≡ minus)
 
 -- "every block before the first with a finite non-zero far sample is the near block bit for bit (non-finite read as 0.0)". From creation
 -- or reset e, cs are the calls before the one that holds that far sample, flushes and refused calls among them, p is the process that
