@@ -74,13 +74,13 @@ readsOf g (r ∷ rs) = readsOf (readOf g r) rs
 abbrev pub endedOf : Engine → Fed
 endedOf e = finishedOf e lastBuffer
 
-pub record Lent : Type 0 where
+pub record Buffers : Type 0 where
   pub shadow : List Float
   pub output : List Float
   pub spectra : List Float
 
-abbrev pub lentBy : Fed → Lent
-lentBy f = record { shadow = f .shadow; output = f .output; spectra = f .spectra }
+abbrev pub buffersBy : Fed → Buffers
+buffersBy f = record { shadow = f .shadow; output = f .output; spectra = f .spectra }
 
 -- after it an unfinished pair is dropped
 unfoldable pub endOf : Going → Going

@@ -20,8 +20,9 @@ use Rattle.complex_fft.proofs.Reversing.{at-entry}
 use Rattle.rho_taps.specs.Update as rhoUpdate
 use Rattle.tau_paths.specs.Paths.{counted}
 use Rattle.tau_state.specs.Constants.{oneMore, oneMore32}
+use Rattle.tau_steps.proofs.Bounds.{leak-moves}
 use Rattle.tau_block_laws.proofs.Bounds.{step-factor, target-bounds}
-use Rattle.promises.specs.Clauses.{Narrowing, Extremes, Products, Rounds, Entries, Reversal, StepFactor, SuppressorTarget, Counters}
+use Rattle.promises.specs.Clauses.{Narrowing, Extremes, Products, Rounds, Entries, Reversal, MoveLeak, StepFactor, SuppressorTarget, Counters}
 
 -- ---- numbers
 
@@ -73,6 +74,9 @@ pub reversal : Reversal
 reversal = (length-reversal, at-entry, back)
 
 -- ---- the bounds of a block
+
+pub move-leak : MoveLeak
+move-leak = leak-moves
 
 pub step-factors : StepFactor
 step-factors = step-factor

@@ -5,7 +5,7 @@ use Prim.Native.Nat.{ℕ}
 use native.Mathlib.Omega.{arith}
 use lib.ListN.{length}
 use Rattle.laws.specs.Choice.{pick-if}
-use Rattle.streams.proofs.Sounds.{still-zero, still-minus, still-nan, still-inf, minus-read}
+use Rattle.streams.proofs.Sounds.{still-zero, still-minus, still-other, still-finite, minus-read}
 use Rattle.rho_sample.specs.Sample as sample
 use Rattle.rho.specs.Calls as rho
 use Rattle.rho_streams.specs.Stream as rhoStream
@@ -77,7 +77,7 @@ pub tau-parts : TauParts
 tau-parts e ps out l r z = let s = cut-call e ps out l r z in (s .accepted, s .run)
 
 pub sounds : Sounds
-sounds = (still-zero, still-minus, still-nan, still-inf, minus-read)
+sounds = (still-zero, still-minus, still-other, still-finite, minus-read)
 
 pub tau-silence : TauSilence
 tau-silence = first-places

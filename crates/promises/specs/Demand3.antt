@@ -6,11 +6,11 @@ use mathlib.Core.Path.{_≡_}
 use mathlib.Core.Bool.{Bool, true, false}
 use mathlib.Core.List.{List, [], _∷_, _++_, map}
 use Prim.Native.Nat.{ℕ, _+_, _-_, _*_, _/_, _%_, _≤_, _<_}
-use lib.Ieee.{Float, nan, inf, binary32, ofBits}
+use lib.Ieee.{Float, nan, binary32, ofBits}
 use lib.ListN.{length, getD, take}
 use Rattle.laws.specs.Kinds.{All}
-use Rattle.numbers.specs.Finite.{plus, finiteOrZero}
-use Rattle.numbers.specs.Zeros.{Fits, Still}
+use Rattle.numbers.specs.Finite.{plus, isFinite, finiteOrZero}
+use Rattle.numbers.specs.Zeros.{Zero, Fits, Still}
 use Rattle.streams.specs.Parts.{Part, Level, allNear, allFar}
 use Rattle.rho_sample.specs.Sample as sample
 use Rattle.rho.specs.Pairs as rhoPairs
@@ -20,7 +20,7 @@ use Rattle.rho_streams.specs.Stream as rhoStream
 use Rattle.tau_state.specs.Ranges.{rangedOf}
 use Rattle.tau_frame.specs.Pairs.{Engine, deliversOf, blockOf, flushedOf}
 use Rattle.tau.specs.Calls as tau
-use Rattle.tau_streams.specs.Stream.{Roomy, rowOf, AllAccepted, ranBy, begunBy, Call, Since, anew, afterCalls, byBlocks, paddedRest}
+use Rattle.tau_streams.specs.Stream.{Roomy, processedOf, AllAccepted, ranBy, begunBy, Call, Since, anew, afterCalls, byBlocks, paddedRest}
 use Rattle.tau_streams.specs.Stream.Call.{feed, flush}
 use Rattle.tau_streams.specs.Silence.{Begins, callsOf, AllTaken, takenOf, givenOf, Gentle, filledBy}
 use Rattle.promises.specs.Demand1.{tauSized, rhoSized}
@@ -65,20 +65,25 @@ TauCalls =
 -- any two ways to cut a stream into accepted calls give the same samples, state, buffers and last outcome,
 abbrev pub TauCuts : Type 0
 TauCuts = (e : Engine) (ps qs : List Part) → AllAccepted e ps → AllAccepted e qs → allNear ps ≡ allNear qs → allFar ps ≡ allFar qs
-    → rowOf e ps .run ≡ rowOf e qs .run
+    → processedOf e ps .run ≡ processedOf e qs .run
 
 -- and the parts of an accepted call are accepted where each has its room, and come to the same
 abbrev pub TauParts : Type 0
 TauParts = (e : Engine) (ps : List Part) (out : List Float) → All Level ps → Roomy (e .state .carried) ps
     → tau.processOf e (allNear ps) (allFar ps) out .answer .refusal ≡ 0
-    → AllAccepted e ps × (rowOf e ps .run ≡ ranBy (tau.processOf e (allNear ps) (allFar ps) out))
+    → AllAccepted e ps × (processedOf e ps .run ≡ ranBy (tau.processOf e (allNear ps) (allFar ps) out))
 
 -- ---- the singer, for TauCanceller
 
--- What is no sound: 0.0, -0.0, NaN and the infinities, which are read as 0.0. And a near -0.0 is read as it is.
+-- What is no sound: 0.0, -0.0, and what is not finite; of the finite samples only zeros. And a near -0.0 is read as it is.
 abbrev pub Sounds : Type 0
-Sounds = let minus = ofBits binary32 0x8000_0000 in
-    Still plus × Still minus × Still nan × ((s : Bool) → Still (inf s)) × (finiteOrZero minus ≡ minus)
+Sounds =
+    let minus = ofBits binary32 0x8000_0000 in
+    Still plus
+    × Still minus
+    × ((y : Float) → isFinite y ≡ false → Still y)
+    × ((y : Float) → Still y → isFinite y ≡ true → Zero y)
+    × (finiteOrZero minus ≡ minus)
 
 -- "every block before the first with a finite non-zero far sample is the near block bit for bit (non-finite read as 0.0)". From creation
 -- or reset e, cs are the calls before the one that holds that far sample, flushes and refused calls among them, p is the process that
@@ -146,18 +151,18 @@ RhoFlush = (e : sample.Engine)
 
 -- from any state: a sample for each pair of accepted calls,
 abbrev pub RhoCounts : Type 0
-RhoCounts = (e : sample.Engine) (ps : List Part) → rhoStream.AllAccepted e ps → length (rhoStream.rowOf e ps .run .samples) ≡ length (allNear ps)
+RhoCounts = (e : sample.Engine) (ps : List Part) → rhoStream.AllAccepted e ps → length (rhoStream.processedOf e ps .run .samples) ≡ length (allNear ps)
 
 -- any two ways to cut a stream into accepted calls give the same samples, state and buffers,
 abbrev pub RhoCuts : Type 0
 RhoCuts = (e : sample.Engine) (ps qs : List Part) → rhoStream.AllAccepted e ps → rhoStream.AllAccepted e qs
-    → allNear ps ≡ allNear qs → allFar ps ≡ allFar qs → rhoStream.rowOf e ps .run ≡ rhoStream.rowOf e qs .run
+    → allNear ps ≡ allNear qs → allFar ps ≡ allFar qs → rhoStream.processedOf e ps .run ≡ rhoStream.processedOf e qs .run
 
 -- and the parts of an accepted call are accepted where each has its room, and come to the same
 abbrev pub RhoParts : Type 0
 RhoParts = (e : sample.Engine) (ps : List Part) (out : List Float) → All Level ps → All rhoStream.Room ps
     → rho.processOf e (allNear ps) (allFar ps) out .answer .refusal ≡ 0
-    → rhoStream.AllAccepted e ps × (rhoStream.rowOf e ps .run ≡ rhoStream.ranBy (rho.processOf e (allNear ps) (allFar ps) out))
+    → rhoStream.AllAccepted e ps × (rhoStream.processedOf e ps .run ≡ rhoStream.ranBy (rho.processOf e (allNear ps) (allFar ps) out))
 
 -- ---- Rho's freeze
 

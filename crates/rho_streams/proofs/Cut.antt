@@ -30,7 +30,7 @@ use Rattle.rho.specs.Pairs.{Run, pairsOf}
 use Rattle.rho.specs.Calls.{settingsOf, sizedOf, rangedOf, createRefusal, stateRefusal, pairsRefusal, processRefusal, Called, begunOf, createOf, resetOf, processOf}
 use Rattle.streams.specs.Parts.{Part, Level, Fair, allNear, allFar}
 use Rattle.streams.proofs.Parts.{parts-fair}
-use Rattle.rho_streams.specs.Stream.{begunBy, leftBy, ranBy, processNumber, Room, joined, thenOf, rowOf, AllAccepted, takenBy}
+use Rattle.rho_streams.specs.Stream.{begunBy, leftBy, ranBy, processNumber, Room, joined, thenOf, processedOf, AllAccepted, takenBy}
 use Rattle.rho.proofs.Going.{next-small}
 use Rattle.rho_state.proofs.Accepted.{Ranged, State, accepted-state, Pairs, accepted-pairs, taps-some}
 use Rattle.rho_streams.proofs.Counts.{delivers, create-answers, create-began, reset-answers, reset-began, process-answers, process-ran, process-delivers}
@@ -183,7 +183,7 @@ call-ran e near far out h =
 
 -- A row of calls is accepted where its first state is in range with buffers of its size, and each part is in order by itself.
 pub row-accepted : (e : Engine) (ps : List Part) → Ready e → All Fair ps → All Room ps → AllAccepted e ps
-unfolding rowOf
+unfolding processedOf
 row-accepted e [] r h o = all-none
 row-accepted e (p ∷ ps) r h o =
     let a = h .each .0 in
@@ -193,8 +193,8 @@ row-accepted e (p ∷ ps) r h o =
     all-cons (process-answers e (p .near) (p .far) (p .out) ∙ z) (subst (λ (r : Run). AllAccepted (r .engine) ps) (sym (call-ran e (p .near) (p .far) (p .out) z)) rest)
 
 -- A row of accepted calls leaves the state and the buffers, and delivers the samples, of the run over the whole stream.
-pub row-runs : (e : Engine) (ps : List Part) → AllAccepted e ps → rowOf e ps .run ≡ pairsOf e (allNear ps) (allFar ps)
-unfolding rowOf allNear allFar pairsOf
+pub row-runs : (e : Engine) (ps : List Part) → AllAccepted e ps → processedOf e ps .run ≡ pairsOf e (allNear ps) (allFar ps)
+unfolding processedOf allNear allFar pairsOf
 row-runs e [] h = refl
 row-runs e (p ∷ ps) h =
     let z = sym (process-answers e (p .near) (p .far) (p .out)) ∙ h .each .0 in
@@ -202,13 +202,13 @@ row-runs e (p ∷ ps) h =
     let run = pairsOf e (p .near) (p .far) in
     let rest = row-runs (run .engine) ps (subst (λ (r : Run). AllAccepted (r .engine) ps) k (record { each = h .each .1 })) in
     let level = accepted-pairs (e .state) (length (e .weights)) (length (e .history)) _ _ _ z .pairs .level in
-    ap (λ (r : Run). joined r (rowOf (r .engine) ps .run)) k
+    ap (λ (r : Run). joined r (processedOf (r .engine) ps .run)) k
     ∙ ap (joined run) rest
     ∙ sym (cut e (p .near) (allNear ps) (p .far) (allFar ps) level)
 
 -- accepted calls are given as many near as far samples
 pub row-level : (e : Engine) (ps : List Part) → AllAccepted e ps → length (allNear ps) ≡ length (allFar ps)
-unfolding rowOf allNear allFar
+unfolding processedOf allNear allFar
 row-level e [] h = refl
 row-level e (p ∷ ps) h =
     let z = sym (process-answers e (p .near) (p .far) (p .out)) ∙ h .each .0 in
@@ -217,12 +217,12 @@ row-level e (p ∷ ps) h =
     omega (arith, length-append (p .near) (allNear ps), length-append (p .far) (allFar ps))
 
 -- So they have delivered a sample for each pair given.
-pub row-delivers : (e : Engine) (ps : List Part) → AllAccepted e ps → length (rowOf e ps .run .samples) ≡ length (allNear ps)
+pub row-delivers : (e : Engine) (ps : List Part) → AllAccepted e ps → length (processedOf e ps .run .samples) ≡ length (allNear ps)
 row-delivers e ps h = ap (λ (r : Run). length (r .samples)) (row-runs e ps h) ∙ delivers e (allNear ps) (allFar ps) (row-level e ps h)
 
 -- Two rows of accepted calls over one stream agree.
 pub rows-agree : (e : Engine) (ps qs : List Part) → AllAccepted e ps → AllAccepted e qs → allNear ps ≡ allNear qs → allFar ps ≡ allFar qs
-    → rowOf e ps .run ≡ rowOf e qs .run
+    → processedOf e ps .run ≡ processedOf e qs .run
 rows-agree e ps qs hp hq n f =
     let k : pairsOf e (allNear ps) (allFar ps) ≡ pairsOf e (allNear qs) (allFar qs) = rw (n, f) in
     row-runs e ps hp ∙ k ∙ sym (row-runs e qs hq)
@@ -233,7 +233,7 @@ rows-agree e ps qs hp hq n f =
 -- and what they leave and deliver together is what the uncut call leaves and delivers.
 pub record SameCall (e : Engine) (ps : List Part) (call : Called) : Type 0 where
   pub accepted : AllAccepted e ps
-  pub run : rowOf e ps .run ≡ ranBy call
+  pub run : processedOf e ps .run ≡ ranBy call
 
 pub cut-call : (e : Engine) (ps : List Part) (out : List Float) → All Level ps → All Room ps → processOf e (allNear ps) (allFar ps) out .answer .refusal ≡ 0
     → SameCall e ps (processOf e (allNear ps) (allFar ps) out)

@@ -77,16 +77,16 @@ abbrev pub thenOf : Engine → List Float → List Float → List Float → List
 thenOf e a c b d = let first = pairsOf e a c in joined first (pairsOf (first .engine) b d)
 
 -- the parts processed one after the other, each call on the state and the buffers that the one before it left
-unfoldable pub rowOf : Engine → List Part → Made Run
-rowOf e [] = record { run = waitsOf e; refusals = [] }
-rowOf e (p ∷ ps) =
+unfoldable pub processedOf : Engine → List Part → Made Run
+processedOf e [] = record { run = waitsOf e; refusals = [] }
+processedOf e (p ∷ ps) =
     let call = processOf e (p .near) (p .far) (p .out) in
-    let rest = rowOf (leftBy call) ps in
+    let rest = processedOf (leftBy call) ps in
     record { run = joined (ranBy call) (rest .run); refusals = call .answer .refusal ∷ rest .refusals }
 
 -- every call of the row is accepted
 abbrev pub AllAccepted : Engine → List Part → Type 0
-AllAccepted e ps = All (λ r. r ≡ 0) (rowOf e ps .refusals)
+AllAccepted e ps = All (λ r. r ≡ 0) (processedOf e ps .refusals)
 
 -- ---- calls of every kind
 

@@ -13,7 +13,7 @@ use tau_state::state::TauCanceller;
 ghost use mathlib.Core.Path.{_≡_};
 ghost use Prim.Native.Nat.{_<_, _≤_};
 ghost use lib.ListN.{length, take};
-ghost use Rattle.capture.specs.Program.{turnOf, endedOf, lentBy};
+ghost use Rattle.capture.specs.Program.{turnOf, endedOf, buffersBy};
 
 // What a turn leaves to the next: how many bytes wait in the block, whether to go on, and whether all that was to be written was.
 pub struct Turn {
@@ -120,7 +120,7 @@ fn ended(left: usize, state: TauCanceller) -> Turn
 
 // The flush, into a buffer of its own: 256 samples are more than can wait.
 fn finish(state: TauCanceller, shadow: &mut [f64], output: &mut [f64], spectra: &mut [f64])
-    ensures { λ r. ⌜ record { shadow = now (shadow .exit); output = now (output .exit); spectra = now (spectra .exit) } ≡ lentBy (endedOf (record { state = state; shadow = now (shadow .entry); output = now (output .entry); spectra = now (spectra .entry) })) ⌝ }
+    ensures { λ r. ⌜ record { shadow = now (shadow .exit); output = now (output .exit); spectra = now (spectra .exit) } ≡ buffersBy (endedOf (record { state = state; shadow = now (shadow .entry); output = now (output .entry); spectra = now (spectra .entry) })) ⌝ }
 {
     let mut bytes = [0u8; 1024];
     let answer = capture::finish(state, shadow, output, spectra, &mut bytes);

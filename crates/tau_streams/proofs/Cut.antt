@@ -21,7 +21,7 @@ use Rattle.tau_frame.specs.Pairs.{Engine, Run, waitsOf, pairOf, lastOf, pairsOf
 use Rattle.tau.specs.Calls.{Called, servedOf, processOf}
 use Rattle.streams.specs.Parts.{Part, Level, Fair, allNear, allFar}
 use Rattle.streams.proofs.Parts.{parts-fair}
-use Rattle.tau_streams.specs.Stream.{Intact, leftBy, ranBy, Roomy, joined, thenOf, rowOf, AllAccepted}
+use Rattle.tau_streams.specs.Stream.{Intact, leftBy, ranBy, Roomy, joined, thenOf, processedOf, AllAccepted}
 use Rattle.tau.specs.Calls.{processNumber}
 use Rattle.tau_frame.proofs.Later.{last-first, last-assoc}
 use Rattle.tau_fresh.proofs.Accepted.{Process, state-accepted, accepted-pairs, process-accepted}
@@ -66,7 +66,7 @@ call-ran e near far out h = ap ranBy (process-ran e near far out h) ∙ served-r
 -- A row of calls is accepted where its first engine is in order, each part has as many near as far samples, at most 4,096, and each has
 -- room for what it delivers.
 pub row-accepted : {n f : ℕ} (e : Engine) (ps : List Part) → Intact n f e → All Fair ps → Roomy (e .state .carried) ps → AllAccepted e ps
-unfolding rowOf
+unfolding processedOf
 row-accepted e [] s h r = all-none
 row-accepted {n} {f} e (p ∷ ps) s h r =
     let a = h .each .0 in
@@ -89,21 +89,21 @@ first-process e p z = accepted-pairs (e .state) _ _ _ _ _ _ z
 
 -- A row of accepted calls leaves the state and the buffers, delivers the samples, and last reports the outcome, of the run over the whole
 -- stream.
-pub row-runs : (e : Engine) (ps : List Part) → AllAccepted e ps → rowOf e ps .run ≡ pairsOf e (allNear ps) (allFar ps)
-unfolding rowOf allNear allFar pairsOf
+pub row-runs : (e : Engine) (ps : List Part) → AllAccepted e ps → processedOf e ps .run ≡ pairsOf e (allNear ps) (allFar ps)
+unfolding processedOf allNear allFar pairsOf
 row-runs e [] h = refl
 row-runs e (p ∷ ps) h =
     let z = sym (process-answers e (p .near) (p .far) (p .out)) ∙ h .each .0 in
     let k = call-ran e (p .near) (p .far) (p .out) z in
     let run = pairsOf e (p .near) (p .far) in
     let rest = row-runs (run .engine) ps (subst (λ (r : Run). AllAccepted (r .engine) ps) k (record { each = h .each .1 })) in
-    ap (λ (r : Run). joined r (rowOf (r .engine) ps .run)) k
+    ap (λ (r : Run). joined r (processedOf (r .engine) ps .run)) k
     ∙ ap (joined run) rest
     ∙ sym (cut e (p .near) (allNear ps) (p .far) (allFar ps) (first-process e p z .pairs .level))
 
 -- accepted calls are given as many near as far samples
 pub row-level : (e : Engine) (ps : List Part) → AllAccepted e ps → length (allNear ps) ≡ length (allFar ps)
-unfolding rowOf allNear allFar
+unfolding processedOf allNear allFar
 row-level e [] h = refl
 row-level e (p ∷ ps) h =
     let z = sym (process-answers e (p .near) (p .far) (p .out)) ∙ h .each .0 in
@@ -113,17 +113,17 @@ row-level e (p ∷ ps) h =
 
 -- So from a state in range they have delivered the whole blocks of what was carried at first and all pairs since,
 pub row-delivers : (e : Engine) (ps : List Part) → Ranged (e .state) → AllAccepted e ps
-    → length (rowOf e ps .run .samples) ≡ (e .state .carried + length (allNear ps)) / 256 * 256
+    → length (processedOf e ps .run .samples) ≡ (e .state .carried + length (allNear ps)) / 256 * 256
 row-delivers e ps s h = ap (λ (r : Run). length (r .samples)) (row-runs e ps h) ∙ delivers e (allNear ps) (allFar ps) s (row-level e ps h)
 
 -- and the rest is carried.
 pub row-carries : (e : Engine) (ps : List Part) → Ranged (e .state) → AllAccepted e ps
-    → rowOf e ps .run .engine .state .carried ≡ (e .state .carried + length (allNear ps)) % 256
+    → processedOf e ps .run .engine .state .carried ≡ (e .state .carried + length (allNear ps)) % 256
 row-carries e ps s h = ap (λ (r : Run). r .engine .state .carried) (row-runs e ps h) ∙ carries e (allNear ps) (allFar ps) s (row-level e ps h)
 
 -- Two rows of accepted calls over one stream agree.
 pub rows-agree : (e : Engine) (ps qs : List Part) → AllAccepted e ps → AllAccepted e qs → allNear ps ≡ allNear qs → allFar ps ≡ allFar qs
-    → rowOf e ps .run ≡ rowOf e qs .run
+    → processedOf e ps .run ≡ processedOf e qs .run
 rows-agree e ps qs hp hq n f =
     let k : pairsOf e (allNear ps) (allFar ps) ≡ pairsOf e (allNear qs) (allFar qs) = rw (n, f) in
     row-runs e ps hp ∙ k ∙ sym (row-runs e qs hq)
@@ -134,7 +134,7 @@ rows-agree e ps qs hp hq n f =
 -- accepted, and what they leave, deliver and last report together is what the uncut call leaves, delivers and reports.
 pub record SameCall (e : Engine) (ps : List Part) (call : Called) : Type 0 where
   pub accepted : AllAccepted e ps
-  pub run : rowOf e ps .run ≡ ranBy call
+  pub run : processedOf e ps .run ≡ ranBy call
 
 pub cut-call : (e : Engine) (ps : List Part) (out : List Float) → All Level ps → Roomy (e .state .carried) ps
     → processOf e (allNear ps) (allFar ps) out .answer .refusal ≡ 0 → SameCall e ps (processOf e (allNear ps) (allFar ps) out)

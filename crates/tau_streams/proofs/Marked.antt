@@ -2,7 +2,7 @@
 use mathlib.Core.Path.{_≡_, sym, _∙_}
 use native.Mathlib.Omega.{arith}
 use Rattle.tau_frame.specs.Pairs.{Engine, pairsOf}
-use Rattle.tau_streams.specs.Stream.{Good, rowOf}
+use Rattle.tau_streams.specs.Stream.{Good, processedOf}
 use Rattle.tau_streams.specs.Marked.{Created, M12, M12Calls}
 use Rattle.tau.proofs.Accepted.{create-answers, flush-answers}
 use Rattle.tau_streams.proofs.Counts.{pairs-intact, created-good, created-empty, delivers, carries, flushed-delivers, flush-delivers}
@@ -34,7 +34,7 @@ m12-calls e ps c h =
       λ n. (
         omega (arith, n, d, z),
         λ out a.
-            let f = flush-delivers (rowOf e ps .run .engine) out (sym (flush-answers (rowOf e ps .run .engine) out) ∙ a) .count in
+            let f = flush-delivers (processedOf e ps .run .engine) out (sym (flush-answers (processedOf e ps .run .engine) out) ∙ a) .count in
             omega (arith, n, k, f, z),
       ),
     )

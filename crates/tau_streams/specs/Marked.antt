@@ -8,7 +8,7 @@ use lib.ListN.{length}
 use Rattle.tau_frame.specs.Pairs.{Engine, pairsOf, flushedOf}
 use Rattle.tau.specs.Calls.{createOf, flushOf}
 use Rattle.streams.specs.Parts.{Part, allNear}
-use Rattle.tau_streams.specs.Stream.{begunBy, rowOf, AllAccepted}
+use Rattle.tau_streams.specs.Stream.{begunBy, processedOf, AllAccepted}
 
 -- an engine as an accepted creation leaves it, with any settings and whatever the buffers held
 pub record Created (e : Engine) : Type 0 where
@@ -39,8 +39,8 @@ M12 =
 abbrev pub M12Calls : Type 0
 M12Calls =
     (e : Engine) (ps : List Part) → Created e → AllAccepted e ps
-    → (length (allNear ps) ≡ 255 → length (rowOf e ps .run .samples) ≡ 0)
-    × (length (allNear ps) ≡ 256 → length (rowOf e ps .run .samples) ≡ 256)
+    → (length (allNear ps) ≡ 255 → length (processedOf e ps .run .samples) ≡ 0)
+    × (length (allNear ps) ≡ 256 → length (processedOf e ps .run .samples) ≡ 256)
     × (length (allNear ps) ≡ 600
-    → (length (rowOf e ps .run .samples) ≡ 512)
-    × ((out : List Float) → flushOf (rowOf e ps .run .engine) out .answer .refusal ≡ 0 → flushOf (rowOf e ps .run .engine) out .answer .delivered ≡ 88))
+    → (length (processedOf e ps .run .samples) ≡ 512)
+    × ((out : List Float) → flushOf (processedOf e ps .run .engine) out .answer .refusal ≡ 0 → flushOf (processedOf e ps .run .engine) out .answer .delivered ≡ 88))

@@ -104,12 +104,12 @@ blocksOf (suc k) e near far =
     let b = blockOn e (take 256 near) (take 256 far) in
     joined b (blocksOf k (b .engine) (drop 256 near) (drop 256 far))
 
--- A carry l of 256 places after k blocks of a stream and the pairs behind them, too few for a block: these stand at its front, and
--- behind them what was last written there, which is the last block's samples, or as it was where there was none.
+-- what k blocks of a stream last wrote to a carry l of 256 places: the last block's samples, and nothing where there was none
 unfoldable pub writtenTo : ℕ → List Float → List Float → List Float
 writtenTo zero l stream = l
 writtenTo (suc k) l stream = cleanOf (take 256 (drop (256 * k) stream))
 
+-- the carry after k blocks and the pairs behind them, too few for a block: these stand at its front, and what was last written behind them
 abbrev pub carryOf : ℕ → List Float → List Float → List Float
 carryOf k l stream = let rest = drop (256 * k) stream in cleanOf rest ++ drop (length rest) (writtenTo k l stream)
 
@@ -126,16 +126,16 @@ paddedRest stream = let rest = drop (256 * (length stream / 256)) stream in clea
 -- ---- rows of calls
 
 -- the parts processed one after the other, each call on the state and the buffers that the one before it left
-unfoldable pub rowOf : Engine → List Part → Made Run
-rowOf e [] = record { run = waitsOf e; refusals = [] }
-rowOf e (p ∷ ps) =
+unfoldable pub processedOf : Engine → List Part → Made Run
+processedOf e [] = record { run = waitsOf e; refusals = [] }
+processedOf e (p ∷ ps) =
     let call = processOf e (p .near) (p .far) (p .out) in
-    let rest = rowOf (leftBy call) ps in
+    let rest = processedOf (leftBy call) ps in
     record { run = joined (ranBy call) (rest .run); refusals = call .answer .refusal ∷ rest .refusals }
 
 -- every call of the row is accepted
 abbrev pub AllAccepted : Engine → List Part → Type 0
-AllAccepted e ps = All (λ r. r ≡ 0) (rowOf e ps .refusals)
+AllAccepted e ps = All (λ r. r ≡ 0) (processedOf e ps .refusals)
 
 -- ---- calls of every kind
 

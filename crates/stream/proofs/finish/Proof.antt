@@ -1,7 +1,7 @@
 -- `stream::finish` meets its contract: what was delivered lies in its buffer, and the lent buffers are as the flush left them. Assumes
 -- nothing.
 use mathlib.Core.Path.{ap}
-use Rattle.capture.specs.Program.{lentBy}
+use Rattle.capture.specs.Program.{buffersBy}
 use Rattle.capture.proofs.Room.{finished-sends}
 use borrow.Author.Needs.{needs}
 use Rattle.stream.proofs.finish.Statement.{statement}
@@ -18,4 +18,4 @@ finish-spec =
     (λ c. search needs)
     (λ c. search needs)
     (λ c. search needs)
-    (λ c. ap lentBy (c .before .before .before .before .before .before .before .before .before .finish .ensures)))
+    (λ c. ap buffersBy (c .before .before .before .before .before .before .before .before .before .finish .ensures)))
