@@ -1,7 +1,7 @@
--- One answer each: two answers that meet a promise, each with what every lent buffer holds after, are the same. A promise is a relation: its
--- crate names it in specs/Promises, and the function's contract cites that name. Weaken one, and its line here is false. Where a call
--- writes to buffers, its answer and these make one record. What an accepted call leaves in a lent scratch is open: no line speaks of it.
--- Statements; proved in proofs/Answers.antt.
+-- One answer each: two answers that meet a promise, each with what every lent buffer holds after, are the same. A promise is a relation,
+-- which its crate names in specs/Promises; that a function's contract is its relation is Contracts. Weaken one, and its line here is false.
+-- Where a call writes to buffers, its answer and these make one record. What an accepted call leaves in a lent scratch is open: no line
+-- speaks of it. Statements; proved in proofs/Answers.antt.
 use mathlib.Core.Path.{_≡_}
 use mathlib.Core.Bool.{Bool}
 use mathlib.Core.List.{List}
