@@ -78,6 +78,11 @@ pub fn turned(word: u64) -> u64 {
     b ^ b << 17
 }
 
+/// A word by a small number. Those of two numbers lie apart on the ring.
+pub fn word_of(number: u64) -> u64 {
+    turned(turned(number)) | 1
+}
+
 /// One pattern for every NaN, since which one an operation gives is left open.
 pub fn bits(x: f64) -> u64 {
     if x.is_nan() {
