@@ -2,6 +2,7 @@
 //! crates/block_cases/stdin, which the program `block_cases` replays. Its src/main.rt says what the fields of a line are.
 
 mod aspeyruni;
+mod block_borders;
 mod branches;
 #[allow(dead_code)] // the Rust's text, whole
 mod canceller;
@@ -102,13 +103,19 @@ impl List {
     /// An array, of which one number is of its own where the array has the place.
     fn make_with(&mut self, array: u64, kind: Kind, place: u64, mark: u64) {
         let word = self.seed();
+        self.make_by(
+            array,
+            Recipe64 {
+                word,
+                kind,
+                place,
+                mark,
+            },
+        );
+    }
+
+    fn make_by(&mut self, array: u64, recipe: Recipe64) {
         let n = self.lent();
-        let recipe = Recipe64 {
-            word,
-            kind,
-            place,
-            mark,
-        };
         let buffers = [&mut self.shadow, &mut self.output, &mut self.spectra];
         let buffers = buffers.map(|buffer| &mut buffer[..n]);
         recipe.make(array, &mut self.state, buffers);
@@ -204,6 +211,7 @@ fn main() {
     arrays(&mut list);
     numbers(&mut list);
     samples(&mut list);
+    block_borders::all(&mut list);
     list.counts.tell_all_taken();
     print!("{}", list.text);
 }
@@ -357,18 +365,25 @@ fn edges(list: &mut List) {
         list.new_with(state);
         list.each(SILENCE, SOUND, 0.0, 1);
     }
-    // the target is the gain
-    list.new_with(established(1));
+    target_is_gain(list, 1, LOW);
+    amid_rescue(list, 1, 5, 50);
+}
+
+fn target_is_gain(list: &mut List, partitions: usize, near: Kind) {
+    list.new_with(established(partitions));
     list.make(GAIN, [0.1f64.to_bits(), 0]);
     list.make(ECHO, [1e9f64.to_bits(), 0]);
-    list.each(LOW, SOUND, 0.0, 1);
-    // amid a rescue streak: the shadow diverging in a flush, which compares nothing after it; the output diverging alone; and the guard
-    // in a flush, whose padded places keep the suppressor's samples
-    let mut state = established(1);
-    state.mic.paths.rescue_streak = 5;
+    list.each(near, SOUND, 0.0, 1);
+}
+
+/// Amid a rescue streak: the shadow diverging in a flush, which compares nothing after it; the output diverging alone; and the guard in a
+/// flush, whose padded places keep the suppressor's samples.
+fn amid_rescue(list: &mut List, partitions: usize, streak: u32, valid: usize) {
+    let mut state = established(partitions);
+    state.mic.paths.rescue_streak = streak;
     list.new_with(state);
     list.make(SHADOW, INFINITE64);
-    list.flush(LOW, SOUND, 0.5, 50);
+    list.flush(LOW, SOUND, 0.5, valid);
     list.new_with(state);
     list.make(SHADOW, SOUND64);
     list.make(OUTPUT, INFINITE64);
@@ -376,7 +391,7 @@ fn edges(list: &mut List) {
     state.mic.guard.divergence_out_power = 1e9;
     list.new_with(state);
     list.make(OUTPUT, SOUND64);
-    list.flush(LOW, SOUND, 0.5, 50);
+    list.flush(LOW, SOUND, 0.5, valid);
 }
 
 /// Every array with numbers of every kind, and with one number that is none, at its end.

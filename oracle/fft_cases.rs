@@ -165,6 +165,7 @@ fn main() {
     table(&mut list);
     angles(&mut list);
     halves(&mut list);
+    one_bin(&mut list);
     print!("{}", list.text);
 }
 
@@ -288,6 +289,21 @@ fn halves(list: &mut List) {
             list.case(letter, recipe, right(letter), at);
         }
         wrong(list, letter);
+    }
+}
+
+/// Bin 128, its own mirror, so large that its sum with itself is infinite: it is halved after that. And bin 0 alone, both parts -0.0, which
+/// the products and sums, run for it as for any bin, turn to +0.0. Whole and by halves.
+fn one_bin(list: &mut List) {
+    let large = 1.5 * 2f64.powi(1023);
+    let bins = [
+        Recipe::Noise([0, 0, 0, 256, bits(large)]),
+        Recipe::Tone([1.0, -0.0, -0.0]),
+    ];
+    for recipe in bins {
+        for letter in ['i', 'j', 'h', 'l'] {
+            list.case(letter, recipe, right(letter), 0);
+        }
     }
 }
 

@@ -51,6 +51,12 @@ impl Random {
         self.0
     }
 
+    /// For noise. From a word as it is, noise would go on with the words that are drawn after it: two noises drawn in a row were the same,
+    /// one place apart. The committed lists have seeds of that kind, and keep them.
+    pub fn seed(&mut self) -> u64 {
+        mixed(self.word())
+    }
+
     /// Below `n`.
     pub fn below(&mut self, n: usize) -> usize {
         ((self.word() >> 11) % n as u64) as usize
@@ -76,6 +82,18 @@ pub fn turned(word: u64) -> u64 {
     let a = word ^ word << 13;
     let b = a ^ a >> 7;
     b ^ b << 17
+}
+
+/// By the last steps of splitmix64. No two words give the same, and 0 gives 0.
+fn mixed(word: u64) -> u64 {
+    let a = (word ^ word >> 30).wrapping_mul(0xbf58_476d_1ce4_e5b9);
+    let b = (a ^ a >> 27).wrapping_mul(0x94d0_49bb_1331_11eb);
+    b ^ b >> 31
+}
+
+/// A word by a small number. Those of two numbers lie apart on the ring.
+pub fn word_of(number: u64) -> u64 {
+    turned(turned(number)) | 1
 }
 
 /// One pattern for every NaN, since which one an operation gives is left open.

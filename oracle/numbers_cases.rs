@@ -18,10 +18,12 @@
 //! Rust does not say which NaN an operation gives, so every NaN answer is written as one pattern,
 //! 7ff8000000000000 or 7fc00000. Left out is what Rust leaves open or refuses:
 //! - `min` and `max` of +0.0 and -0.0, which may give either;
-//! - `clamp` to a zero with zeros of both signs among its operands, which may give either too;
 //! - `clamp` with a NaN for a bound, or with bounds in the wrong order, which panics;
 //! - `min` and `max` of a number and a signalling NaN: Rust's pages promise the number, as for a
 //!   quiet one, and rustc 1.95 gives a NaN on Arm (aarch64), where the lists are made.
+//!
+//! `clamp` to a zero with zeros of both signs among its operands may give either too. Those lines stand at the end, with what the
+//! comparisons of Rust's own text give (docs/DECISIONS.md): a zero is neither below the other one nor above it, and stays.
 
 use std::collections::HashSet;
 
@@ -328,15 +330,25 @@ fn clamping(list: &mut List, random: &mut Random) {
         let [x, y, z] = [0; 3].map(|_| f64::from_bits(random.bits(F64)));
         triples.extend([[x, y, z], [y, x, z]]);
     }
-    for [x, lo, hi] in triples {
-        if lo <= hi && !is_open(x, lo, hi) {
-            list.put('c', [x, lo, hi].map(f64::to_bits), bits(x.clamp(lo, hi)));
-        }
+    triples.retain(|[_, lo, hi]| lo <= hi);
+    let (open, settled): (Vec<_>, _) = triples.into_iter().partition(|triple| is_open(*triple));
+    for [x, lo, hi] in settled {
+        list.put('c', [x, lo, hi].map(f64::to_bits), bits(x.clamp(lo, hi)));
+    }
+    for [x, lo, hi] in open {
+        let answer = if x < lo {
+            lo
+        } else if x > hi {
+            hi
+        } else {
+            x
+        };
+        list.put('c', [x, lo, hi].map(f64::to_bits), bits(answer));
     }
 }
 
 /// Whether `clamp` may give either zero.
-fn is_open(x: f64, lo: f64, hi: f64) -> bool {
+fn is_open([x, lo, hi]: [f64; 3]) -> bool {
     let has = |zero: f64| [x, lo, hi].map(f64::to_bits).contains(&zero.to_bits());
     has(0.0) && has(-0.0) && x.clamp(lo, hi) == 0.0
 }

@@ -283,7 +283,7 @@ fn main() {
 
 impl Both {
     fn noise(&mut self, kind: Kind, count: usize) -> Vec<f32> {
-        samples(self.random.word(), kind, count)
+        samples(self.random.seed(), kind, count)
     }
 
     /// New buffers for so many taps, with noise in them.
@@ -452,7 +452,7 @@ impl Both {
         let hangover = 120 + random.below(601) as u32;
         let [near_power, residual_power] = [0; 2].map(|_| {
             let [base, mask] = random.one_of(&POWERS);
-            let word = random.word();
+            let word = random.seed();
             Noise { word, base, mask }.number()
         });
         State {

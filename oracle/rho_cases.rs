@@ -12,7 +12,8 @@ mod rho_reference;
 mod rust_rho;
 
 use aspeyruni::rho::{Answer, RhoCanceller as State, Started};
-use inputs::{bits, bits32, halves, hash32, line, turned, Random};
+use inputs::{bits, bits32, halves, hash32, line, turned, word_of, Random};
+use inputs::{DIGITS32, SIGN32};
 use kinds::*;
 use recipe::Recipe;
 
@@ -194,6 +195,11 @@ fn main() {
     divergence(&mut list);
     refused_states(&mut list);
     refused_lengths(&mut list);
+    // these came later: at the end, so that the lines before them keep their seeds
+    oldest(&mut list);
+    error_overflows(&mut list);
+    order_of_energy(&mut list);
+    refused_without_pairs(&mut list);
     print!("{}", list.text);
 }
 
@@ -557,5 +563,62 @@ fn refused_lengths(list: &mut List) {
     }
     for (count, room) in RIGHT {
         list.process(Recipe::of(0.25), Recipe::of(1.0), [count; 2], room);
+    }
+}
+
+/// The peak includes the oldest far sample: with it the last near sample is not loud, and one pair later it is.
+fn oldest(list: &mut List) {
+    let silence = Recipe::of(0.0);
+    let far = silence.marked(0, 1.0);
+    for last in [7, 8] {
+        list.begin(8_000, 1);
+        list.process(silence.marked(last, 0.4), far, [last + 1; 2], last + 1);
+    }
+}
+
+/// An echo of -0.5, learnt; then a pair whose error no f32 holds, though its estimate is one.
+fn error_overflows(list: &mut List) {
+    list.begin(8_000, 0);
+    let pairs = |list: &mut List, near, far, count| {
+        list.process(Recipe::of(near), Recipe::of(far), [count; 2], count);
+    };
+    pairs(list, -0.5, 1.0, 4_000);
+    pairs(list, 3e38, 3e38, 1);
+}
+
+/// The energy is a sum from the newest on: after 1.0 squares of such a size do not count, and before it their sum does. In one history the
+/// newest stands first, in the other last.
+fn order_of_energy(list: &mut List) {
+    let taps = 8_192;
+    let small = [0x63 << 23, SIGN32 | DIGITS32]; // 2^-28 to 2^-27
+    for pos in [0, taps - 2] {
+        list.lent = [taps; 2];
+        let state = State {
+            hangover_samples: 120,
+            ..quiet(taps, pos)
+        };
+        let history = Recipe::noise(word_of(42), small);
+        list.set(state, Recipe::of(0.0), history);
+        list.process(Recipe::of(0.3), Recipe::of(1.0), [1; 2], 1);
+    }
+}
+
+/// Process of no pairs is refused as any other: 2 by either buffer, and 6 by each of the numbers that have a range.
+fn refused_without_pairs(list: &mut List) {
+    let none = |list: &mut List| list.process(Recipe::of(0.0), Recipe::of(0.0), [0; 2], 0);
+    for lent in [[7, 8], [8, 7]] {
+        list.begin(8_000, 1);
+        list.lent = lent;
+        none(list);
+    }
+    let mut states = [quiet(4, 2); 4];
+    states[0].taps = 8_193;
+    states[1].pos = 4;
+    states[2].hangover_samples = 119;
+    states[3].hangover_remaining = 241;
+    for state in states {
+        list.lent = [4; 2];
+        list.set(state, Recipe::of(0.5), Recipe::of(0.75));
+        none(list);
     }
 }

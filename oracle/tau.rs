@@ -309,13 +309,13 @@ fn main() {
 
 impl Both {
     fn noise(&mut self, [base, mask]: Kind, count: usize) -> Vec<f64> {
-        let word = self.random.word();
+        let word = self.random.seed();
         let mut noise = Noise { word, base, mask };
         (0..count).map(|_| noise.number()).collect()
     }
 
     fn samples(&mut self, kind: Kind, count: usize) -> Vec<f32> {
-        samples(self.random.word(), kind, count)
+        samples(self.random.seed(), kind, count)
     }
 
     /// New buffers for so many partitions, with noise in them.
@@ -591,7 +591,7 @@ impl Both {
             _ => self.random.one_of(&KINDS64),
         };
         let recipe = Recipe64 {
-            word: self.random.word(),
+            word: self.random.seed(),
             kind,
             place: u64::MAX,
             mark: 0,

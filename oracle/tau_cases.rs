@@ -313,6 +313,9 @@ fn main() {
     foreign(&mut list);
     refused_states(&mut list);
     refused_lengths(&mut list);
+    // these came later: at the end, so that the lines before them keep their seeds
+    reset_streaks(&mut list);
+    refused_without_pairs(&mut list);
     list.counts.tell_all_taken();
     let [c, p, f, r] = list.calls;
     eprintln!("{c} calls of create, {p} of process, {f} of flush, {r} of reset");
@@ -679,4 +682,37 @@ fn refused_lengths(list: &mut List) {
     }
     list.flush_in(list.state.carried);
     list.flush_in(0);
+}
+
+/// Both streaks are the fresh state's after a reset.
+fn reset_streaks(list: &mut List) {
+    for (rescue, quiet) in [(1, 0), (7, 5)] {
+        list.create(1, true);
+        list.set(|s| {
+            s.mic.paths.rescue_streak = rescue;
+            s.mic.paths.quiet_streak = quiet;
+        });
+        list.reset();
+    }
+}
+
+/// Process of no pairs is refused as any other: 2 by each of the buffers, and 6 by each of the numbers that have a range.
+fn refused_without_pairs(list: &mut List) {
+    for buffer in 0..3 {
+        list.create(1, true);
+        list.lent[buffer] = NUMBERS - 1;
+        list.process_any(ones(), [0, 0], 0);
+    }
+    let states: [fn(&mut TauCanceller); 5] = [
+        |s| s.carried = 256,
+        |s| s.partitions = 33,
+        |s| s.far.head = 1,
+        |s| s.mic.paths.rescue_streak = 8,
+        |s| s.mic.detector.dtd_blocks = 65,
+    ];
+    for change in states {
+        list.create(1, true);
+        list.set(change);
+        list.process_any(ones(), [0, 0], 0);
+    }
 }

@@ -44,6 +44,15 @@ pub struct Recipe64 {
 }
 
 impl Recipe64 {
+    pub fn noise(word: u64, kind: Kind) -> Recipe64 {
+        Recipe64 {
+            word,
+            kind,
+            place: u64::MAX,
+            mark: 0,
+        }
+    }
+
     pub fn fields(self, array: u64) -> [u64; 8] {
         let [base, mask] = self.kind;
         [self.word, base, mask, self.place, self.mark, array, 0, 0]

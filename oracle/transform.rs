@@ -77,7 +77,7 @@ const STRANGE: [f64; 8] = [
 
 impl Random {
     fn numbers<const N: usize>(&mut self, kind: Kind) -> [f64; N] {
-        let word = self.word();
+        let word = self.seed();
         match kind {
             Kind::Bits([base, mask], _) => {
                 let mut noise = Noise { word, base, mask };
@@ -104,7 +104,7 @@ impl Random {
 
     fn samples(&mut self, kind: Kind) -> [f32; SAMPLES] {
         if let Kind::Bits(_, [base, mask]) = kind {
-            let word = self.word();
+            let word = self.seed();
             let mut noise = Noise { word, base, mask };
             return from_fn(|_| noise.sample());
         }
