@@ -21,8 +21,9 @@ extern "C" {
 
 /* ---- numbers and the transform */
 
-/* The nearest f32, ties to even; a NaN gives 7FC00000. */
+/* The nearest f32, ties to even. A NaN gives a NaN, and with which bits is not promised. */
 float aspeyruni_narrow(double x);
+/* The bits of that f32; for a NaN 7FC00000. */
 uint32_t aspeyruni_narrow_bits(double x);
 
 /* 512 samples to 514 numbers, 257 bins real part then imaginary, and back; 256 complex points in place, 512 numbers. 0, or refusal 2. */

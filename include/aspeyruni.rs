@@ -47,11 +47,12 @@ unsafe extern "C" {
     fn aspeyruni_complex_inverse(points: *mut f64, points_len: usize) -> u32;
 }
 
-/// The nearest f32, ties to even; a NaN gives 7FC00000.
+/// The nearest f32, ties to even. A NaN gives a NaN, and with which bits is not promised.
 pub fn narrow(x: f64) -> f32 {
     unsafe { aspeyruni_narrow(x) }
 }
 
+/// The bits of that f32; for a NaN 7FC00000.
 pub fn narrow_bits(x: f64) -> u32 {
     unsafe { aspeyruni_narrow_bits(x) }
 }
