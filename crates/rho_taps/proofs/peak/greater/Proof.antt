@@ -1,4 +1,4 @@
--- `rho::peak::greater` meets its contract: both ways out are what the test picks. Assumes nothing.
+-- `rho_taps::peak::greater` meets its contract: both ways out are what the test picks. Assumes nothing.
 use mathlib.Core.Path.{refl}
 use Rattle.laws.specs.Choice.{pick-yes, pick-no}
 use Rattle.rho_taps.specs.Peak.{greaterOf}

@@ -1,4 +1,4 @@
--- `rho::peak::lanes` meets its contract: after b turns p is what b times sixteen samples make of it, and within a turn its first q
+-- `rho_taps::peak::lanes` meets its contract: after b turns p is what b times sixteen samples make of it, and within a turn its first q
 -- places are what they will be after it. Assumes nothing.
 use mathlib.Core.Path.{_≡_}
 use Prim.Native.Nat.{_+_, _-_, _*_, _≤_}

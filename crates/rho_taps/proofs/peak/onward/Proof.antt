@@ -1,4 +1,4 @@
--- `rho::peak::onward` meets its contract: m is what the turns so far make of p. Assumes nothing.
+-- `rho_taps::peak::onward` meets its contract: m is what the turns so far make of p. Assumes nothing.
 use mathlib.Core.Path.{_≡_}
 use Prim.Native.Nat.{_+_, _-_, _≤_}
 use borrow.Author.Needs.{needs}

@@ -1,4 +1,4 @@
--- `rho::peak::peak` meets its contract: the greatest of the sixteen lanes, and then of the rest, is the greatest of all (Lanes).
+-- `rho_taps::peak::peak` meets its contract: the greatest of the sixteen lanes, and then of the rest, is the greatest of all (Lanes).
 -- Assumes nothing.
 use Prim.Native.Nat.{_*_, _/_, _≤_}
 use native.Mathlib.Omega.{arith}

@@ -1,4 +1,4 @@
--- `rho::peak::peak_at` meets its contract: around the ring or straight over the list is the same (Lanes). Assumes nothing.
+-- `rho_taps::peak::peak_at` meets its contract: around the ring or straight over the list is the same (Lanes). Assumes nothing.
 use borrow.Author.Needs.{needs}
 use Rattle.rho_taps.proofs.Lanes.{peak-ring}
 use Rattle.rho_taps.proofs.peak.peak_at.Statement.{statement}

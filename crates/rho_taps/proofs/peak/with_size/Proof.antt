@@ -1,4 +1,4 @@
--- `rho::peak::with_size` meets its contract: it is the two calls. Assumes nothing.
+-- `rho_taps::peak::with_size` meets its contract: it is the two calls. Assumes nothing.
 use borrow.Author.Needs.{needs}
 use Rattle.rho_taps.specs.Peak.{withSize}
 use Rattle.rho_taps.proofs.peak.with_size.Statement.{statement}

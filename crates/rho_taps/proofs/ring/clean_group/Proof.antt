@@ -1,4 +1,4 @@
--- `rho::clean_group` meets its contract. Assumes nothing.
+-- `rho_taps::clean_group` meets its contract. Assumes nothing.
 use mathlib.Core.Path.{_≡_}
 use Prim.Native.Nat.{_+_, _-_, _≤_}
 use native.Mathlib.Omega.{arith}

@@ -1,4 +1,4 @@
--- `rho::sum_group` meets its contract. Assumes nothing.
+-- `rho_taps::sum_group` meets its contract. Assumes nothing.
 use borrow.Author.Needs.{needs}
 use Rattle.laws.specs.Choice.{both}
 use Rattle.rho_taps.proofs.ring.sum_group.Statement.{statement}

@@ -1,4 +1,4 @@
--- `rho::sum_run` meets its contract: a group is 32 terms more, and what is left goes to the end of the run. Assumes nothing.
+-- `rho_taps::sum_run` meets its contract: a group is 32 terms more, and what is left goes to the end of the run. Assumes nothing.
 use mathlib.Core.Path.{_≡_}
 use Prim.Native.Nat.{_+_, _-_, _≤_}
 use native.Mathlib.Omega.{arith}

@@ -1,4 +1,4 @@
--- `rho::products_below` meets its contract. Assumes nothing.
+-- `rho_taps::products_below` meets its contract. Assumes nothing.
 use borrow.Author.Needs.{needs}
 use Rattle.rho_taps.proofs.update.products_below.Statement.{statement}
 use Rattle.rho_taps.proofs.update.products_below.Tie as tie

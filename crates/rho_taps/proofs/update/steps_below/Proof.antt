@@ -1,4 +1,4 @@
--- `rho::steps_below` meets its contract. Assumes nothing.
+-- `rho_taps::steps_below` meets its contract. Assumes nothing.
 use mathlib.Core.Path.{_≡_, refl, ap, _∙_}
 use mathlib.Core.List.{List}
 use Prim.Native.Nat.{ℕ, _<_}

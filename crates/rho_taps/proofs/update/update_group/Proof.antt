@@ -1,4 +1,4 @@
--- `rho::update_group` meets its contract: a weight plus its step is the weight nudged. Assumes nothing.
+-- `rho_taps::update_group` meets its contract: a weight plus its step is the weight nudged. Assumes nothing.
 use mathlib.Core.Path.{_≡_, ap, _∙_}
 use mathlib.Core.Bool.{Bool, true, _&&_}
 use mathlib.Core.List.{List}

@@ -1,4 +1,4 @@
--- `tau_steps::tripped` meets its contract. Assumes nothing.
+-- `tau_guard::guard::tripped` meets its contract. Assumes nothing.
 use borrow.Author.Needs.{needs}
 use Rattle.tau_guard.proofs.guard.tripped.Statement.{statement}
 use Rattle.tau_guard.proofs.guard.tripped.Tie as tie
