@@ -127,6 +127,9 @@ fn block(
 ) -> Got
     requires { ⌜ valid ≤ 256 ⌝ }
 {
+    if valid < 1 {
+        return unknown(state);
+    }
     let partitions = state.partitions;
     if 32 < partitions {
         return unknown(state);

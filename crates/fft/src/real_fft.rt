@@ -16,7 +16,7 @@ ghost use lib.ListN.{length, take, drop};
 ghost use Rattle.complex_fft.specs.Reversal.{reversalTable};
 ghost use Rattle.self_sorting.specs.Passes.{loaded, pointsOf, passes};
 ghost use Rattle.fft.specs.Calls.{lentOf};
-ghost use Rattle.fft.specs.RealFft.{binFrom, binOf, binsOf, halfOf, halvesOf, spectrumWith, samplesWith};
+ghost use Rattle.fft.specs.RealFft.{binFrom, binOf, binsOf, halfOf, halvesOf, samplesWith};
 ghost use Rattle.fft.specs.Scratch.{scaledFrom};
 ghost use Rattle.fft.specs.Promises.{Forward, Inverse, ForwardWith, InverseWith, InverseHalfWith, RefusedKeeps};
 

@@ -4,3 +4,4 @@ pub mod Readings
 pub mod Tables
 pub mod Parts
 pub mod Kinds
+pub mod Counting

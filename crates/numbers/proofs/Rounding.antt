@@ -2,7 +2,7 @@
 use mathlib.Core.Path.{_≡_, refl, sym, ap, _∙_, subst}
 use mathlib.Core.Logic.{_⊎_, inl, inr}
 use Prim.Native.Nat.{ℕ, zero, suc, _+_, _-_, _*_, _/_, _%_, _^_, _≤_, _<_, compare, Ordering, Ordering·lt, Ordering·eq, Ordering·gt}
-use native.Mathlib.Nat.{le-refl, le-trans, le-of-eq, lt-of-lt-of-le, lt-of-not-le, not-le-of-lt, lt-irrefl, eq-or-lt-of-le, add-assoc, mul-assoc, mul-comm, mul-pos, mul-le-mul-right, le-of-mul-le-mul-right, mul-div-cancel, le-div-iff-mul-le, pow-succ', div-eq-of-lt, mod-eq-of-lt, mul-le-mul-left, zero-add, one-mul, mod-lt}
+use native.Mathlib.Nat.{le-refl, le-trans, le-of-eq, lt-of-lt-of-le, lt-of-not-le, not-le-of-lt, eq-or-lt-of-le, add-assoc, mul-assoc, mul-comm, mul-pos, mul-le-mul-right, le-of-mul-le-mul-right, mul-div-cancel, le-div-iff-mul-le, pow-succ', div-eq-of-lt, mod-eq-of-lt, mul-le-mul-left, zero-add, one-mul, mod-lt}
 use native.Mathlib.Numerals.{add-one}
 use native.Mathlib.Omega.{arith}
 use mathlib.Core.Bool.{Bool, true, false, not, cond}
@@ -18,6 +18,7 @@ use lib.Ieee.Nearest.{closest, closest-same, div-same, nearest-ge}
 use lib.Ieee.Scale.{round-same}
 use Rattle.laws.specs.Choice.{pick, lt-or-ge}
 use Rattle.numbers.specs.Narrowing.{narrowOf, magOf}
+use Rattle.numbers.proofs.Values.{pow-le-back}
 
 -- ---- `compare` and `closest`
 
@@ -81,12 +82,6 @@ closest-none a b h =
 
 size-gt : (n j : ℕ) → 2 ^ j ≤ n → j < size n
 size-gt n j h = lt-of-not-le (λ (g : size n ≤ j). not-le-of-lt (lt-of-lt-of-le (size-lt n) (pow-mono g)) h)
-
-pow-le-back : (a l : ℕ) → 2 ^ a ≤ 2 ^ l → a ≤ l
-pow-le-back a l h = lt-le (lt-of-not-le (λ (g : suc l ≤ a). lt-irrefl (2 ^ l) (lt-of-lt-of-le (pow-lt g) h)))
-  where
-    lt-le : a < suc l → a ≤ l
-    lt-le k = omega arith
 
 -- ---- the bits of a finite value, by its size in units of the smallest value
 

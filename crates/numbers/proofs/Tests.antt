@@ -105,7 +105,7 @@ and-true : (a b : Bool) → (a && b) ≡ true → a ≡ true
 and-true true b h = refl
 and-true false b h = h
 
-some-size : (m : ℕ) (e : ℤ) → suc m * up e * 1 ≡ 0 * down e → ⊥
+pub some-size : (m : ℕ) (e : ℤ) → suc m * up e * 1 ≡ 0 * down e → ⊥
 some-size m e h = lt-irrefl 0 (subst (λ (z : ℕ). 0 < z) (sym (mul-one (suc m * up e)) ∙ h ∙ zero-mul (down e)) (mul-pos (zero-lt-suc m) (up-pos e)))
 
 pub abs-zero : (f : Format) (x : Float) → T (fits f x) → eq x zeroF ≡ true → zeroF ≡ absOf x

@@ -38,7 +38,7 @@ unique f x y s a c C p q h k = sym (ofBits-toBits f x p) ∙ ap (ofBits f) (bits
 
 -- ---- a value of the format is rounded to itself
 
-pow-le-back : (a l : ℕ) → 2 ^ a ≤ 2 ^ l → a ≤ l
+pub pow-le-back : (a l : ℕ) → 2 ^ a ≤ 2 ^ l → a ≤ l
 pow-le-back a l h = lt-le (lt-of-not-le (λ (g : suc l ≤ a). lt-irrefl (2 ^ l) (lt-of-lt-of-le (pow-lt g) h)))
   where
     lt-le : a < suc l → a ≤ l

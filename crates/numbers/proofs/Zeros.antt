@@ -2,15 +2,16 @@
 use mathlib.Core.Path.{_≡_, refl, sym, ap, _∙_, subst}
 use mathlib.Core.Bool.{Bool, true, false, not, _&&_, true≢false}
 use Prim.Native.Nat.{ℕ, zero, suc, _-_, _*_, _/_, _^_, _<_}
-use native.Mathlib.Nat.{zero-mul, mul-zero, mul-one, zero-sub as nat-zero-sub, mul-pos, div-eq-of-lt, lt-irrefl, zero-lt-suc}
+use native.Mathlib.Nat.{zero-mul, mul-zero, mul-one, zero-sub as nat-zero-sub, mul-pos, div-eq-of-lt}
 use lib.Dec.{T, eqb}
 use borrow.Author.Tests.{eqb-true}
 use lib.IntN.{ℤ, pos}
 use lib.Ieee.{Float, nan, inf, fin, Format, binary32, binary64, prec, low, unlike, up, down, size, units, round, neg, sum, add, sub, mul, eq, ne}
-use lib.Ieee.Fits.{core, round-is, down-pos, up-pos}
+use lib.Ieee.Fits.{core, round-is, down-pos}
 use lib.Ieee.Nearest.{closest}
 use Rattle.numbers.specs.Narrowing.{narrowOf}
 use Rattle.numbers.specs.Finite.{plus, isFinite}
+use Rattle.numbers.proofs.Tests.{some-size}
 use Rattle.numbers.proofs.Rounding.{closest-none}
 use Rattle.numbers.specs.Zeros.{isZero, isFaint, Zero, Faint, Plus, Blank, Finite}
 
@@ -268,9 +269,6 @@ level-true a b t h = eqb-true a b (and-true (eqb a b) t h)
     and-true : (a b : Bool) → (a && b) ≡ true → a ≡ true
     and-true true b h = refl
     and-true false b h = h
-
-some-size : (m : ℕ) (e : ℤ) → suc m * up e * 1 ≡ 0 * down e → ⊥
-some-size m e h = lt-irrefl 0 (subst (λ (z : ℕ). 0 < z) (sym (mul-one (suc m * up e)) ∙ h ∙ zero-mul (down e)) (mul-pos (zero-lt-suc m) (up-pos e)))
 
 -- no sound: a sample that equals 0.0
 pub zero-of-eq : (x : Float) → eq x plus ≡ true → Zero x

@@ -19,7 +19,7 @@ use Rattle.complex_fft.specs.Reversal.{rev8, reversalTable}
 use Rattle.complex_fft.proofs.Reversing.{at-entry}
 use Rattle.rho_taps.specs.Update as rhoUpdate
 use Rattle.tau_paths.specs.Paths.{counted}
-use Rattle.tau_state.specs.Constants.{oneMore, oneMore32}
+use Rattle.laws.specs.Counting.{oneMore, oneMore32}
 use Rattle.tau_steps.proofs.Bounds.{leak-moves}
 use Rattle.tau_block_laws.proofs.Bounds.{step-factor, target-bounds}
 use Rattle.promises.specs.Clauses.{Narrowing, Extremes, Products, Rounds, Entries, Reversal, MoveLeak, StepFactor, SuppressorTarget, Counters}
@@ -91,5 +91,5 @@ held : (n m : ℕ) → n ≤ m → pick (ltb n m) (n + 1) n ≡ min (n + 1) m
 held n m h = pick-if (λ (k : ℕ). k ≡ min (n + 1) m) (ltb n m) (λ t. omega (arith, ltb-true n m t)) (λ t. omega (arith, ltb-false n m t))
 
 pub counters : Counters
-unfolding oneMore oneMore32 counted rhoUpdate.oneMore rhoUpdate.clearedOf
+unfolding oneMore oneMore32 counted rhoUpdate.clearedOf
 counters = (λ n h. held n (2 ^ 32 - 1) h, λ n leak h. held n (2 ^ 64 - 1) h, λ taps n h. held n (2 ^ 64 - 1) h)

@@ -17,7 +17,7 @@ use Rattle.complex_fft.specs.Reversal.{reversalTable, Reversed}
 use Rattle.rho_taps.specs.Update.{clearedOf}
 use Rattle.tau_steps.specs.Bounds.{Leak}
 use Rattle.tau_paths.specs.Paths.{verdict, counted}
-use Rattle.tau_state.specs.Constants.{oneMore32}
+use Rattle.laws.specs.Counting.{oneMore32}
 use Rattle.tau_state.specs.declared.state.Paths.{Paths}
 use Rattle.tau_state.specs.declared.report.Outcome.the-variants.{Move}
 use Rattle.tau_block_laws.specs.Bounds.{Factor, Target}

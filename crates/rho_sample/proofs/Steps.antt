@@ -8,7 +8,7 @@ use lib.ListN.{set}
 use Rattle.numbers.specs.Finite.{isFinite, finiteOrZero}
 use Rattle.numbers.specs.Narrowing.{narrowOf}
 use Rattle.rho_state.specs.declared.state.RhoCanceller.{RhoCanceller}
-use Rattle.rho_taps.specs.Ring.{nextOf, estimateOf, energyOf, peakOf}
+use Rattle.rho_taps.specs.Ring.{nextOf, estimateOf, windowEnergyOf, peakOf}
 use Rattle.rho_sample.specs.Sample.{Engine, Stepped, loudOf, freezeOf, afterOf, stepOf}
 use Rattle.rho_taps.specs.Update.{Adapted, scaleOf, adaptedOf}
 
@@ -16,7 +16,7 @@ pub step-is : (e : Engine) (near far : Float) (pos n : ℕ) (error energy output
     → pos ≡ nextOf (e .state .pos) (e .state .taps)
     → n ≡ e .state .taps
     → error ≡ sub binary64 near (estimateOf (e .weights) (set (e .history) pos far) pos n)
-    → energy ≡ energyOf (set (e .history) pos far) pos n
+    → energy ≡ windowEnergyOf (set (e .history) pos far) pos n
     → output ≡ narrowOf error
     → fine ≡ isFinite output
     → peak ≡ peakOf (set (e .history) pos far) pos n

@@ -9,7 +9,7 @@ use Rattle.numbers.specs.Finite.{isFinite, finiteOrZero}
 use Rattle.numbers.specs.Narrowing.{narrowOf}
 use Rattle.numbers.specs.Order.{absOf}
 use Rattle.rho_state.specs.declared.state.RhoCanceller.{RhoCanceller}
-use Rattle.rho_taps.specs.Ring.{nextOf, estimateOf, energyOf, peakOf}
+use Rattle.rho_taps.specs.Ring.{nextOf, estimateOf, windowEnergyOf, peakOf}
 use Rattle.rho_taps.specs.Update.{scaleOf, adaptedOf}
 
 -- the engine whole: its state and the two lent buffers
@@ -59,7 +59,7 @@ stepOf e near far =
     let error = sub binary64 near (estimateOf (e .weights) history pos n) in
     let output = finiteOrZero (narrowOf error) in
     let freeze = freezeOf (s .«hangover_samples») (s .«hangover_remaining») (loudOf near (peakOf history pos n)) in
-    let a = adaptedOf (isFinite (narrowOf error)) freeze (scaleOf error (energyOf history pos n)) history pos n (e .weights) (s .«divergence_resets») in
+    let a = adaptedOf (isFinite (narrowOf error)) freeze (scaleOf error (windowEnergyOf history pos n)) history pos n (e .weights) (s .«divergence_resets») in
     record {
       engine = record { state = afterOf s pos freeze near output (a .resets); weights = a .weights; history = history };
       output = output;

@@ -8,7 +8,7 @@ ghost use mathlib.Core.Path.{_≡_};
 ghost use Prim.Native.Nat.{_<_};
 ghost use lib.ListN.{length};
 ghost use lib.Ieee.{binary64, sub};
-ghost use Rattle.rho_taps.specs.Ring.{estimateOf, energyOf, peakOf};
+ghost use Rattle.rho_taps.specs.Ring.{estimateOf, windowEnergyOf};
 ghost use Rattle.rho_sample.specs.Sample.{loudOf, freezeOf, smoothOf, afterOf, stepOf};
 
 const GEIGEL_THRESHOLD: f32 = 0.5;
@@ -31,7 +31,7 @@ fn judge(near: f32, weights: &[f32], history: &[f32], pos: usize) -> Judged
     requires { ⌜ length (now weights) ≡ length (now history) ⌝ }
     requires { ⌜ pos < length (now history) ⌝ }
     ensures { λ r. ⌜ r .error ≡ sub binary64 near (estimateOf (now (weights .entry)) (now (history .entry)) pos (length (now (history .entry)))) ⌝ }
-    ensures { λ r. ⌜ r .energy ≡ energyOf (now (history .entry)) pos (length (now (history .entry))) ⌝ }
+    ensures { λ r. ⌜ r .energy ≡ windowEnergyOf (now (history .entry)) pos (length (now (history .entry))) ⌝ }
 {
     let sums = sums_of(weights, history, pos);
     Judged {

@@ -27,7 +27,7 @@ use Rattle.numbers.proofs.Clean.{clean-finite, clean-same, clean-fits}
 use Rattle.numbers.proofs.Values.{sub-zero}
 use Rattle.numbers.proofs.Narrowed.{narrow-exact}
 use Rattle.rho_state.specs.State.{tapsOf, hangoverOf}
-use Rattle.rho_taps.specs.Ring.{slotOf, lagOf, estimateOf}
+use Rattle.rho_taps.specs.Ring.{lagSlotOf, lagOf, estimateOf}
 use Rattle.rho_sample.specs.Sample.{Engine, afterOf, stepOf}
 use Rattle.rho_taps.specs.Update.{Adapted, nudgeOf, updatedOf, soundOf, clearedOf, adaptedOf}
 use Rattle.rho.specs.Pairs.{pairsOf}
@@ -52,8 +52,8 @@ zero-kept : (n : ℕ) → Kept Zero n (replicate n plus)
 zero-kept n = record { long = length-replicate n plus; all = all-replicate n plus (plus-zero plus-plus) }
 
 -- a lag's place is one of the ring's
-slot-small : (pos n k : ℕ) → pos < n → k < n → slotOf pos n k < n
-unfolding slotOf
+slot-small : (pos n k : ℕ) → pos < n → k < n → lagSlotOf pos n k < n
+unfolding lagSlotOf
 slot-small pos n k p l = pick-if (λ (x : ℕ). x < n) (leb k pos) (λ _. omega arith) (λ h. older (leb-false k pos h))
   where
     older : pos < k → pos + n - k < n
@@ -61,7 +61,7 @@ slot-small pos n k p l = pick-if (λ (x : ℕ). x < n) (leb k pos) (λ _. omega 
 
 -- so the far sample of any lag is a zero
 lag-zero : {h : List Float} (pos n k : ℕ) → pos < n → k < n → Kept Zero n h → Zero (lagOf h pos n k)
-lag-zero {h} pos n k p l H = all-get (slotOf pos n k) nan (H .all) (let s = slot-small pos n k p l in omega (arith, H .long))
+lag-zero {h} pos n k p l H = all-get (lagSlotOf pos n k) nan (H .all) (let s = slot-small pos n k p l in omega (arith, H .long))
 
 -- ---- creation and reset
 

@@ -12,7 +12,7 @@ use Rattle.laws.specs.Kinds.{All, Kept}
 use Rattle.numbers.specs.Finite.{isFinite, finiteOrZero}
 use Rattle.numbers.specs.Narrowing.{narrowOf}
 use Rattle.numbers.specs.Zeros.{Zero, Plus}
-use Rattle.rho_taps.specs.Ring.{nextOf, estimateOf, energyOf, peakOf}
+use Rattle.rho_taps.specs.Ring.{nextOf, estimateOf, windowEnergyOf, peakOf}
 use Rattle.rho_sample.specs.Sample.{Engine, Stepped, loudOf, stepOf}
 use Rattle.rho_taps.specs.Update.{Adapted, scaleOf, updatedOf, soundOf, clearedOf}
 use Rattle.rho.specs.Pairs.{Run, pairsOf}
@@ -181,7 +181,7 @@ updateAt e x y =
     let n = e .state .taps in
     let pos = placeOf e in
     let history = heardOf e y in
-    updatedOf (scaleOf (errorAt e x y) (energyOf history pos n)) history pos n (e .weights)
+    updatedOf (scaleOf (errorAt e x y) (windowEnergyOf history pos n)) history pos n (e .weights)
 
 -- the weights and the count of resets after the pair
 abbrev pub keptBy : Engine → Float → Float → Adapted

@@ -12,18 +12,18 @@ use mathlib.Core.Path.{_≡_, refl, sym, ap, _∙_, subst}
 use mathlib.Core.Logic.{inl, inr}
 use mathlib.Core.Bool.{Bool, true, false, _&&_}
 use Prim.Native.Nat.{ℕ, zero, suc, _+_, _-_, _*_, _/_, _%_, _^_, _≤_, _<_, max}
-use native.Mathlib.Nat.{le-refl, le-of-lt, le-of-suc-le-suc, le-trans, le-antisymm, eq-or-lt-of-le, lt-of-lt-of-le, lt-of-not-le, lt-irrefl, not-suc-le-zero, zero-mul, one-mul, mul-one, mul-comm, mul-assoc, mul-right-comm, mul-pos, mul-lt-mul-of-pos-right, mul-le-mul-right, lt-of-mul-lt-mul-right, le-of-mul-le-mul-right, sub-add-cancel, max-le}
+use native.Mathlib.Nat.{le-refl, le-of-lt, le-of-suc-le-suc, le-trans, le-antisymm, eq-or-lt-of-le, not-suc-le-zero, zero-mul, one-mul, mul-one, mul-comm, mul-assoc, mul-right-comm, mul-pos, mul-lt-mul-of-pos-right, mul-le-mul-right, lt-of-mul-lt-mul-right, le-of-mul-le-mul-right, sub-add-cancel, max-le}
 use native.Mathlib.Omega.{arith}
 use lib.Dec.{T, ltb, leb, eqb, ltb→lt, leb→le}
 use lib.IntN.{ℤ, pos, negsuc}
-use lib.Pow.{pow-add, pow-pos, pow-lt}
+use lib.Pow.{pow-add, pow-pos}
 use borrow.Author.Tests.{ltb-true, ltb-false, lt-ltb, le-ltb}
 use lib.Ieee.{Float, nan, inf, fin, Format, prec, emax, low, up, down, lt, fits, isNan}
 use lib.Ieee.Fits.{and-l, and-r, down-pos, inf-fits}
 use Rattle.laws.specs.Choice.{pick, lt-or-ge}
 use Rattle.laws.specs.Loops.{iter}
 use Rattle.numbers.specs.Order.{absOf, maxOf}
-use Rattle.numbers.proofs.Values.{unique}
+use Rattle.numbers.proofs.Values.{unique, pow-le-back}
 
 -- ---- sizes and their ranks
 
@@ -68,12 +68,6 @@ rank f (inf s) = past f
 rank f (fin s m e) = m * unitsOf f e
 
 -- ---- the units are exact
-
-pow-le-back : (a l : ℕ) → 2 ^ a ≤ 2 ^ l → a ≤ l
-pow-le-back a l h = under (lt-of-not-le (λ (g : suc l ≤ a). lt-irrefl (2 ^ l) (lt-of-lt-of-le (pow-lt g) h)))
-  where
-    under : a < suc l → a ≤ l
-    under k = omega arith
 
 units-exact : (f : Format) (e : ℤ) → down e ≤ 2 ^ low f → unitsOf f e * down e ≡ up e * 2 ^ low f
 units-exact f (pos a) h = mul-one (2 ^ (low f + a)) ∙ pow-add 2 (low f) a ∙ mul-comm (2 ^ low f) (2 ^ a)

@@ -20,7 +20,7 @@ use Rattle.laws.specs.Loops.{iter, length-over, over-at}
 use Rattle.numbers.specs.Finite.{plus}
 use Rattle.numbers.specs.Order.{absOf, maxOf}
 use Rattle.rho_taps.specs.Peak.{peakUp, greaterOf, withSize, onwardOf, lanesOf}
-use Rattle.rho_taps.specs.Ring.{slotOf, peakOf}
+use Rattle.rho_taps.specs.Ring.{lagSlotOf, peakOf}
 use Rattle.rho_taps.proofs.Greatest.{Number, infinite, finite, Found, rank, top, number-fits, size-abs, abs-number, found-same, found-pick, found-max, found-iter, top-same, top-turned, top-parts, top-lanes}
 
 -- what is known of a slice of f32: each sample fits (and past the end is a NaN, which fits too)
@@ -45,37 +45,37 @@ found-up xs h =
 
 -- ---- around the ring
 
-slot-low : (pos n k : ℕ) → k ≤ pos → slotOf pos n k ≡ pos - k
-unfolding slotOf
+slot-low : (pos n k : ℕ) → k ≤ pos → lagSlotOf pos n k ≡ pos - k
+unfolding lagSlotOf
 slot-low pos n k h = sym (pick-yes (leb k pos) (pos - k) (pos + n - k) (le-leb k pos h) refl)
 
-slot-high : (pos n k : ℕ) → pos < k → slotOf pos n k ≡ pos + n - k
-unfolding slotOf
+slot-high : (pos n k : ℕ) → pos < k → lagSlotOf pos n k ≡ pos + n - k
+unfolding lagSlotOf
 slot-high pos n k h = sym (pick-no (leb k pos) (pos - k) (pos + n - k) (lt-leb k pos h) refl)
 
 -- the slots of the lags are the places of the list, and the slot of the slot is the lag
 module _ (pos n : ℕ) (inside : pos < n) (k : ℕ) (h : k < n) where
-  slot-below : slotOf pos n k < n
+  slot-below : lagSlotOf pos n k < n
   slot-below = elim (lt-or-ge pos k) [ inl a ↦ rw (slot-high pos n k a) (omega arith) | inr a ↦ rw (slot-low pos n k a) (omega arith) ]
 
-  slot-back : slotOf pos n (slotOf pos n k) ≡ k
+  slot-back : lagSlotOf pos n (lagSlotOf pos n k) ≡ k
   slot-back =
       elim (lt-or-ge pos k) [
         | inl a ↦ rw (slot-high pos n k a, slot-high pos n (pos + n - k) (omega arith)) (omega arith)
         | inr a ↦ rw (slot-low pos n k a, slot-low pos n (pos - k) (omega arith)) (omega arith)
       ]
 
-found-ring : (xs : List Float) (pos n : ℕ) → Fits xs → Found binary32 (top (λ k. rankAt xs (slotOf pos n k)) n) (peakOf xs pos n)
+found-ring : (xs : List Float) (pos n : ℕ) → Fits xs → Found binary32 (top (λ k. rankAt xs (lagSlotOf pos n k)) n) (peakOf xs pos n)
 unfolding peakOf
 found-ring xs pos n h =
     rw zero-max at
-    (found-iter (λ k a. maxOf a (absOf (getD xs (slotOf pos n k) nan))) (λ k. rankAt xs (slotOf pos n k))
-    (λ k m a q. found-max q (size-abs binary32 (getD xs (slotOf pos n k) nan) (h (slotOf pos n k)))) found-plus n)
+    (found-iter (λ k a. maxOf a (absOf (getD xs (lagSlotOf pos n k) nan))) (λ k. rankAt xs (lagSlotOf pos n k))
+    (λ k m a q. found-max q (size-abs binary32 (getD xs (lagSlotOf pos n k) nan) (h (lagSlotOf pos n k)))) found-plus n)
 
 pub peak-ring : (xs : List Float) (pos : ℕ) → pos < length xs → ((i : ℕ) → T (fits binary32 (getD xs i nan))) → peakOf xs pos (length xs) ≡ peakUp xs
 peak-ring xs pos p h =
     let n = length xs in
-    found-same (rw (top-turned (rankAt xs) (slotOf pos n) n (slot-below pos n p) (slot-back pos n p)) at (found-ring xs pos n h)) (found-up xs h)
+    found-same (rw (top-turned (rankAt xs) (lagSlotOf pos n) n (slot-below pos n p) (slot-back pos n p)) at (found-ring xs pos n h)) (found-up xs h)
 
 -- ---- the code's step: the size by a test of x and -x, and one more test
 

@@ -16,14 +16,14 @@ use Rattle.laws.specs.Loops.{iter, over, overAt, over-ahead, over-at}
 use Rattle.laws.specs.Readings.{iter-cong, iter-split, over-cong, over-split, overAt-cong}
 use Rattle.numbers.specs.Finite.{plus, isFinite}
 use Rattle.rho_taps.specs.Update.{nudgeOf, updatedOf, soundOf}
-use Rattle.rho_taps.specs.Ring.{slotOf, lagOf, estimateOf, energyOf}
+use Rattle.rho_taps.specs.Ring.{lagSlotOf, lagOf, estimateOf, windowEnergyOf}
 
-pub slot-newer : (pos n k : ℕ) → k ≤ pos → pos - k ≡ slotOf pos n k
-unfolding slotOf
+pub slot-newer : (pos n k : ℕ) → k ≤ pos → pos - k ≡ lagSlotOf pos n k
+unfolding lagSlotOf
 slot-newer pos n k h = pick-yes _ _ _ (le-leb k pos h) refl
 
-pub slot-older : (pos n k : ℕ) → pos < n → k < n - 1 - pos → n - 1 - k ≡ slotOf pos n (pos + 1 + k)
-unfolding slotOf
+pub slot-older : (pos n k : ℕ) → pos < n → k < n - 1 - pos → n - 1 - k ≡ lagSlotOf pos n (pos + 1 + k)
+unfolding lagSlotOf
 slot-older pos n k h l = pick-no _ _ _ (lt-leb (pos + 1 + k) pos (omega arith)) (same pos n k h l)
   where
     same : (pos n k : ℕ) → pos < n → k < n - 1 - pos → n - 1 - k ≡ pos + n - (pos + 1 + k)
@@ -68,8 +68,8 @@ estimate-runs w h pos n b =
 pub energy-runs : (h : List Float) (pos n : ℕ) → pos < n
     → iter (λ k a. add binary64 a (mul binary64 (getD h (n - 1 - k) nan) (getD h (n - 1 - k) nan)))
     (iter (λ k a. add binary64 a (mul binary64 (getD h (pos - k) nan) (getD h (pos - k) nan))) plus (pos + 1)) (n - 1 - pos)
-    ≡ energyOf h pos n
-unfolding energyOf
+    ≡ windowEnergyOf h pos n
+unfolding windowEnergyOf
 energy-runs h pos n b =
     two-runs (λ k a. add binary64 a (mul binary64 (lagOf h pos n k) (lagOf h pos n k))) _ _ pos n b
     (λ k x l. rw (lag-newer h pos n k l))

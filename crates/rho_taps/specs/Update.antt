@@ -1,12 +1,13 @@
 -- The update of the weights, one definition a step and in the order of `step` in rho.rs. Definitions only.
-use Prim.Native.Nat.{ℕ, _+_, _-_, _^_}
+use Prim.Native.Nat.{ℕ}
 use mathlib.Core.Bool.{Bool, true, _&&_}
 use mathlib.Core.List.{List}
-use lib.Dec.{eqb, ltb}
+use lib.Dec.{eqb}
 use lib.Ieee.{Float, nan, binary32, binary64, add, mul, div, ofBits}
 use lib.ListN.{getD, replicate}
 use Rattle.laws.specs.Choice.{pick}
 use Rattle.laws.specs.Loops.{iter, over}
+use Rattle.laws.specs.Counting.{oneMore}
 use Rattle.numbers.specs.Finite.{plus, isFinite}
 use Rattle.numbers.specs.Narrowing.{narrowOf}
 use Rattle.rho_taps.specs.Ring.{lagOf}
@@ -27,10 +28,6 @@ updatedOf scale history pos n weights = over n (λ k w. nudgeOf scale (lagOf his
 -- whether all n are finite
 unfoldable pub soundOf : ℕ → List Float → Bool
 soundOf n weights = iter (λ k sound. sound && isFinite (getD weights k nan)) true n
-
--- one more, and no more than 64 bits hold
-unfoldable pub oneMore : ℕ → ℕ
-oneMore n = pick (ltb n (2 ^ 64 - 1)) (n + 1) n
 
 pub record Adapted : Type 0 where
   pub weights : List Float

@@ -9,7 +9,7 @@ ghost use lib.Dec.{T};
 ghost use lib.ListN.{length, getD};
 ghost use lib.Ieee.{nan, binary64, add, mul, isNan};
 ghost use Rattle.laws.specs.Loops.{iter};
-ghost use Rattle.rho_taps.specs.Ring.{nextOf, estimateOf, energyOf};
+ghost use Rattle.rho_taps.specs.Ring.{nextOf, estimateOf, windowEnergyOf};
 
 pub struct Sums {
     pub estimate: f64,
@@ -120,7 +120,7 @@ pub fn sums_of(weights: &[f32], history: &[f32], pos: usize) -> Sums
     requires { ⌜ length (now weights) ≡ length (now history) ⌝ }
     requires { ⌜ pos < length (now history) ⌝ }
     ensures { λ r. ⌜ r .estimate ≡ estimateOf (now (weights .entry)) (now (history .entry)) pos (length (now (history .entry))) ⌝ }
-    ensures { λ r. ⌜ r .energy ≡ energyOf (now (history .entry)) pos (length (now (history .entry))) ⌝ }
+    ensures { λ r. ⌜ r .energy ≡ windowEnergyOf (now (history .entry)) pos (length (now (history .entry))) ⌝ }
 {
     let none = Sums {
         estimate: 0.0,

@@ -10,7 +10,8 @@ ghost use lib.Ieee.{nan, binary32, binary64, add, mul, isNan};
 ghost use Rattle.laws.specs.Loops.{iter, overAt};
 ghost use Rattle.numbers.specs.Finite.{plus, isFinite};
 ghost use Rattle.numbers.specs.Narrowing.{narrowOf};
-ghost use Rattle.rho_taps.specs.Update.{scaleOf, nudgeOf, updatedOf, soundOf, oneMore, adaptedOf};
+ghost use Rattle.laws.specs.Counting.{oneMore};
+ghost use Rattle.rho_taps.specs.Update.{scaleOf, nudgeOf, updatedOf, soundOf, adaptedOf};
 
 const STEP_SIZE: f64 = 0.5;
 

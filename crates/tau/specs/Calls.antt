@@ -1,7 +1,7 @@
 -- What each call leaves: its answer, the three lent buffers and the output buffer. Definitions only.
 use Prim.Native.Nat.{ℕ, _*_}
 use mathlib.Core.Bool.{Bool}
-use mathlib.Core.List.{List, [], _++_}
+use mathlib.Core.List.{List, _++_}
 use lib.Dec.{eqb}
 use lib.Ieee.{Float}
 use lib.ListN.{length, drop, replicate}

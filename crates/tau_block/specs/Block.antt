@@ -1,7 +1,7 @@
 -- The Tau block: document 01's nine steps in their order. `runBlock` is the loudspeaker's part, steps 1 and 4, and then the microphone's,
 -- `listen`, steps 2, 3 and 5 to 9: the two stay apart, since a second microphone would run the second part again. Step 4 reads nothing
 -- that steps 2 and 3 leave. Definitions only.
-use mathlib.Core.Bool.{Bool, true, false, not, _&&_}
+use mathlib.Core.Bool.{Bool, not, _&&_}
 use mathlib.Core.List.{List}
 use Prim.Native.Nat.{ℕ}
 use lib.Ieee.{Float}

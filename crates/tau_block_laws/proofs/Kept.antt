@@ -29,7 +29,7 @@ use Rattle.tau_steps.proofs.Lengths.{Level, diverge-shadow-length, diverge-leng
 use Rattle.tau_spectra.specs.Windows.{slid, latter}
 use Rattle.tau_spectra.specs.Ring.{Ring, nextSlot}
 use Rattle.tau_spectra.specs.Far.{hearFar}
-use Rattle.tau_filter.specs.Filter.{Shadowed, Estimated, estimateOf, errorsOf, badTo, shadowed, estimated}
+use Rattle.tau_filter.specs.Filter.{Shadowed, Estimated, blockEstimate, errorsOf, badTo, shadowed, estimated}
 use Rattle.tau_update.specs.Update.{Learnt, Updated, framed, stepped, learntAt, learntTo, learntBy, updated}
 use Rattle.tau_suppressor.specs.Suppressor.{Suppressed, suppressed}
 use Rattle.tau_block.specs.Block.{Block, Playing, Microphone, Listened, Engine, listen, runBlock}
@@ -65,13 +65,13 @@ shadowed-streak : (ring : Ring) (near : List Float) (p : Paths) (resets : ℕ) (
     → shadowed ring near p resets sh .paths .«rescue_streak» < 8
 unfolding shadowed
 shadowed-streak ring near p resets sh h =
-    pick-if (λ (r : Shadowed). r .paths .«rescue_streak» < 8) (badTo near (estimateOf sh ring) 256) (λ _. diverge-shadow-streak p resets sh) (λ _. h)
+    pick-if (λ (r : Shadowed). r .paths .«rescue_streak» < 8) (badTo near (blockEstimate sh ring) 256) (λ _. diverge-shadow-streak p resets sh) (λ _. h)
 
 estimated-streak : (ring : Ring) (near : List Float) (p : Paths) (u : Suppressor) (resets : ℕ) (sh ou : List Float) → p .«rescue_streak» < 8
     → estimated ring near p u resets sh ou .paths .«rescue_streak» < 8
 unfolding estimated
 estimated-streak ring near p u resets sh ou h =
-    pick-if (λ (r : Estimated). r .paths .«rescue_streak» < 8) (badTo near (estimateOf ou ring) 256) (λ _. diverge-streak p u resets sh ou) (λ _. h)
+    pick-if (λ (r : Estimated). r .paths .«rescue_streak» < 8) (badTo near (blockEstimate ou ring) 256) (λ _. diverge-streak p u resets sh ou) (λ _. h)
 
 filtered-streak : (ring : Ring) (near : List Float) (m : Mic) (sh ou : List Float) → m .paths .«rescue_streak» < 8
     → filtered ring near m sh ou .output .paths .«rescue_streak» < 8
@@ -109,13 +109,13 @@ compares-count adapt active near energy n f m h = judged-count active energy nea
 shadowed-length : (ring : Ring) (near : List Float) (p : Paths) (resets : ℕ) (sh : List Float) → length (shadowed ring near p resets sh .shadow) ≡ length sh
 unfolding shadowed
 shadowed-length ring near p resets sh =
-    pick-if (λ (r : Shadowed). length (r .shadow) ≡ length sh) (badTo near (estimateOf sh ring) 256) (λ _. diverge-shadow-length p resets sh) (λ _. refl)
+    pick-if (λ (r : Shadowed). length (r .shadow) ≡ length sh) (badTo near (blockEstimate sh ring) 256) (λ _. diverge-shadow-length p resets sh) (λ _. refl)
 
 estimated-lengths : (k : ℕ) (ring : Ring) (near : List Float) (p : Paths) (u : Suppressor) (resets : ℕ) (sh ou : List Float) → Level k sh ou
     → Level k (estimated ring near p u resets sh ou .shadow) (estimated ring near p u resets sh ou .output)
 unfolding estimated
 estimated-lengths k ring near p u resets sh ou h =
-    pick-if (λ (r : Estimated). Level k (r .shadow) (r .output)) (badTo near (estimateOf ou ring) 256) (λ _. diverge-lengths k p u resets sh ou h) (λ _. h)
+    pick-if (λ (r : Estimated). Level k (r .shadow) (r .output)) (badTo near (blockEstimate ou ring) 256) (λ _. diverge-lengths k p u resets sh ou h) (λ _. h)
 
 filtered-lengths : (k : ℕ) (ring : Ring) (near : List Float) (m : Mic) (sh ou : List Float) → Level k sh ou
     → Level k (filtered ring near m sh ou .output .shadow) (filtered ring near m sh ou .output .output)
@@ -177,7 +177,7 @@ estimated-error : (ring : Ring) (near : List Float) (p : Paths) (u : Suppressor)
     → length (estimated ring near p u resets sh ou .error) ≡ 256
 unfolding estimated errorsOf
 estimated-error ring near p u resets sh ou =
-    pick-if (λ (r : Estimated). length (r .error) ≡ 256) (badTo near (estimateOf ou ring) 256)
+    pick-if (λ (r : Estimated). length (r .error) ≡ 256) (badTo near (blockEstimate ou ring) 256)
     (λ _. length-replicate 256 zero32) (λ _. length-table 256 _)
 
 filtered-error : (ring : Ring) (near : List Float) (m : Mic) (sh ou : List Float) → length (filtered ring near m sh ou .output .error) ≡ 256

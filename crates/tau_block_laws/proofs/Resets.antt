@@ -14,7 +14,7 @@ use lib.Ieee.{Float}
 use borrow.Author.Tests.{ltb-true, ltb-false}
 use Rattle.laws.specs.Choice.{pick, pick-yes, pick-no, pick-if}
 use Rattle.laws.specs.Loops.{iter, iter-more}
-use Rattle.tau_state.specs.Constants.{oneMore}
+use Rattle.laws.specs.Counting.{oneMore}
 use Rattle.tau_state.specs.Sums.{energyOf}
 use Rattle.tau_state.specs.declared.state.Mic.{Mic}
 use Rattle.tau_state.specs.declared.state.Paths.{Paths}
@@ -23,7 +23,7 @@ use Rattle.tau_state.specs.declared.state.Guard.{Guard}
 use Rattle.tau_clears.specs.Clears.{ShadowClear, BothClear, OutputHalved, divergeShadow, divergeOf, retireOutput}
 use Rattle.tau_guard.specs.Guard.{Guarded, watched, trips, guarded}
 use Rattle.tau_spectra.specs.Ring.{Ring}
-use Rattle.tau_filter.specs.Filter.{Shadowed, Estimated, estimateOf, badTo, shadowed, estimated}
+use Rattle.tau_filter.specs.Filter.{Shadowed, Estimated, blockEstimate, badTo, shadowed, estimated}
 use Rattle.tau_update.specs.Update.{Updated, learntBy, updated}
 use Rattle.tau_suppressor.specs.Suppressor.{suppressed}
 use Rattle.tau_block.specs.Block.{Block, Playing, Microphone, Listened, Engine, listen, runBlock}
@@ -45,7 +45,7 @@ shadow-clears ring near p m sh =
     let kept : ShadowClear = record { paths = p; resets = m; shadow = sh } in
     pick-if
     (λ (w : Shadowed). _≡_ {A = ShadowClear} (record { paths = w .paths; resets = w .resets; shadow = w .shadow }) (pick (w .diverged) (divergeShadow p m sh) kept))
-    (badTo near (estimateOf sh ring) 256)
+    (badTo near (blockEstimate sh ring) 256)
     (λ _. pick-yes true (divergeShadow p m sh) kept refl refl) (λ _. pick-no false (divergeShadow p m sh) kept refl refl)
 
 -- step 3
@@ -57,7 +57,7 @@ output-clears ring near p u m sh ou =
     (λ (w : Estimated). _≡_ {A = BothClear}
     (record { paths = w .paths; suppressor = w .suppressor; resets = w .resets; shadow = w .shadow; output = w .output })
     (pick (w .diverged) (divergeOf p u m sh ou) kept))
-    (badTo near (estimateOf ou ring) 256)
+    (badTo near (blockEstimate ou ring) 256)
     (λ _. pick-yes true (divergeOf p u m sh ou) kept refl refl) (λ _. pick-no false (divergeOf p u m sh ou) kept refl refl)
 
 -- step 6, of any weights learnt, finite or not

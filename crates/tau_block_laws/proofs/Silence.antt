@@ -12,7 +12,7 @@ use native.Mathlib.Omega.{arith}
 use lib.IntN.{negsuc}
 use lib.Ieee.{Float, nan, fin, binary32, binary64, add, sub, mul, lt, ne, ofBits}
 use lib.ListN.{length, getD, take, drop, replicate, length-append, length-drop, length-map, length-replicate, getD-replicate}
-use lib.Seq.{length-take-le, take-at, take-all, ext-getD}
+use lib.Seq.{length-take-le, take-at, ext-getD}
 use Rattle.laws.specs.Choice.{pick, pick-if}
 use Rattle.laws.specs.Kinds.{Kept, all-get, all-take, all-drop, all-append, all-replicate, all-table2, all-over-to, all-over2-to, all-map, all-places, all-part, all-with, iter-keeps}
 use Rattle.laws.specs.Loops.{iter, length-over, length-over2}
@@ -36,7 +36,7 @@ use Rattle.tau_state.specs.declared.state.Mic.{Mic}
 use Rattle.tau_state.specs.declared.state.Paths.{Paths}
 use Rattle.tau_state.specs.declared.state.Suppressor.{Suppressor}
 use Rattle.tau_state.specs.declared.state.TauCanceller.{TauCanceller}
-use Rattle.tau_block.specs.Block.{Block, Playing, Microphone, Listened, Engine, listen, runBlock}
+use Rattle.tau_block.specs.Block.{Block, Playing, Microphone, Listened, Engine, runBlock}
 use Rattle.tau_block.specs.Groups.{Filtered, filtered, compares, delivered, grouped}
 use Rattle.tau_block.proofs.Composed.{listen-grouped}
 use Rattle.tau_spectra.specs.Windows.{slid}
@@ -44,11 +44,11 @@ use Rattle.tau_spectra.specs.Ring.{Ring, nextSlot, slotOf, metBy}
 use Rattle.tau_spectra.specs.Far.{sounds, energyPeak, drives, Heard, hearFar}
 use Rattle.tau_spectra.specs.Windows.{latter}
 use Rattle.tau_spectra.specs.Ring.{Ring, nextSlot, slotOf, metBy}
-use Rattle.tau_filter.specs.Filter.{Shadowed, Estimated, added, echoTo, echoOf, estimateOf, errorAt, errorsOf, badTo, shadowed, estimated}
+use Rattle.tau_filter.specs.Filter.{Shadowed, Estimated, added, echoTo, echoOf, blockEstimate, errorAt, errorsOf, badTo, shadowed, estimated}
 use Rattle.tau_block_laws.specs.Silence.{Near, Silent, Passed}
 use Rattle.tau_suppressor.specs.Suppressor.{Suppressed, suppressed}
 use Rattle.tau_update.specs.Update.{gradientAt, gradientOf, constrained, stepped, finiteTo, Learnt, Updated, learntAt, learntTo, learntBy, updated}
-use Rattle.tau_block_laws.proofs.Kept.{next-slot, learnt-lengths, length-block}
+use Rattle.tau_block_laws.proofs.Kept.{next-slot, learnt-lengths}
 
 -- ---- small things
 
@@ -190,7 +190,7 @@ echo-plus {ws} ring b W X =
 
 -- the samples of that
 estimate-is : {ws : List Float} (ring : Ring) → 0 < ring .partitions → Kept Plus (514 * ring .partitions) ws → Kept Zero (514 * ring .partitions) (ring .spectra)
-    → estimateOf ws ring ≡ replicate 256 plus
+    → blockEstimate ws ring ≡ replicate 256 plus
 unfolding latter
 estimate-is {ws} ring b W X = ap (drop 256) (silent-samples (echoOf ws ring) (echo-plus ring b W X))
 
@@ -353,7 +353,7 @@ estimated-through : {near sh ou : List Float} (ring : Ring) (p : Paths) (u : Sup
 unfolding estimated
 estimated-through {near} {sh} {ou} ring p u m b N X W =
     let e = estimate-is ring b (W .output) X in
-    off (Estimates (514 * ring .partitions) near) (badTo near (estimateOf ou ring) 256) _ (ap (λ (l : List Float). badTo near l 256) e ∙ bad-not N)
+    off (Estimates (514 * ring .partitions) near) (badTo near (blockEstimate ou ring) 256) _ (ap (λ (l : List Float). badTo near l 256) e ∙ bad-not N)
     (record { weights = W; passed = ap (errorsOf near) e ∙ errors-near N })
 
 filtered-through : {near sh ou : List Float} (ring : Ring) (m : Mic) → 0 < ring .partitions → Near near

@@ -7,7 +7,7 @@ use Prim.Native.Nat.{ℕ, _+_}
 use lib.Ieee.{Float}
 use Rattle.laws.specs.Choice.{pick}
 use Rattle.laws.specs.Loops.{iter}
-use Rattle.tau_state.specs.Constants.{oneMore}
+use Rattle.laws.specs.Counting.{oneMore}
 use Rattle.tau_state.specs.Sums.{energyOf}
 use Rattle.tau_state.specs.declared.state.Paths.{Paths}
 use Rattle.tau_state.specs.declared.state.Suppressor.{Suppressor}

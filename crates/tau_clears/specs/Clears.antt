@@ -4,7 +4,8 @@ use mathlib.Core.List.{List}
 use Prim.Native.Nat.{ℕ}
 use lib.ListN.{replicate}
 use lib.Ieee.{Float}
-use Rattle.tau_state.specs.Constants.{zero64, one, oneMore}
+use Rattle.laws.specs.Counting.{oneMore}
+use Rattle.tau_state.specs.Constants.{zero64, one}
 use Rattle.tau_state.specs.declared.state.Paths.{Paths}
 use Rattle.tau_state.specs.declared.state.Suppressor.{Suppressor}
 use Rattle.tau_clears.specs.Weights.{cleared, halved}

@@ -35,8 +35,8 @@ abbrev pub echoOf : List Float → Ring → List Float
 echoOf weights ring = echoTo weights ring (ring .partitions)
 
 -- the estimate: "last 256 samples of the inverse" of that spectrum
-abbrev pub estimateOf : List Float → Ring → List Float
-estimateOf weights ring = latter (samplesOf (echoOf weights ring))
+abbrev pub blockEstimate : List Float → Ring → List Float
+blockEstimate weights ring = latter (samplesOf (echoOf weights ring))
 
 -- near less the estimate, an f32 subtraction
 abbrev pub errorAt : List Float → List Float → ℕ → Float
@@ -62,7 +62,7 @@ pub record Shadowed : Type 0 where
 -- its estimate to zero and its error to near."
 unfoldable pub shadowed : Ring → List Float → Paths → ℕ → List Float → Shadowed
 shadowed ring near paths resets shadow =
-    let estimate = estimateOf shadow ring in
+    let estimate = blockEstimate shadow ring in
     let clear = divergeShadow paths resets shadow in
     pick (badTo near estimate 256)
     (record {
@@ -90,7 +90,7 @@ pub record Estimated : Type 0 where
 -- reads the estimate's spectrum.
 unfoldable pub estimated : Ring → List Float → Paths → Suppressor → ℕ → List Float → List Float → Estimated
 estimated ring near paths suppressor resets shadow output =
-    let estimate = estimateOf output ring in
+    let estimate = blockEstimate output ring in
     let clear = divergeOf paths suppressor resets shadow output in
     pick (badTo near estimate 256)
     (record {

@@ -1,5 +1,5 @@
 -- How a flush ends: its block, and the delivered samples in the output buffer's first places (`flush-is`). Assumes nothing.
-use mathlib.Core.Path.{_≡_, refl, sym, ap, _∙_}
+use mathlib.Core.Path.{_≡_, refl, ap, _∙_}
 use mathlib.Core.Bool.{false}
 use mathlib.Core.List.{List, _++_}
 use Prim.Native.Nat.{ℕ, _+_, _≤_}
@@ -7,7 +7,7 @@ use native.Mathlib.Nat.{zero-add}
 use native.Mathlib.Omega.{arith}
 use borrow.Author.Tests.{ne-eqb}
 use lib.Ieee.{Float}
-use lib.ListN.{length, take, drop, length-append, length-drop}
+use lib.ListN.{length, take, drop, length-append}
 use lib.Seq.{take-at, drop-at, length-take-le}
 use Rattle.laws.specs.Choice.{pick-no}
 use Rattle.tau_state.specs.declared.state.TauCanceller.{TauCanceller}

@@ -34,8 +34,8 @@ freshMic unit transfers resets = record {
   «divergence_resets» = resets;
 }
 
-abbrev pub stateOf : ℕ → Bool → ℕ → Mic → TauCanceller
-stateOf parts flag head m = record {
+abbrev pub freshStateOf : ℕ → Bool → ℕ → Mic → TauCanceller
+freshStateOf parts flag head m = record {
   partitions = parts;
   suppress = flag;
   carried = 0;
@@ -47,8 +47,8 @@ stateOf parts flag head m = record {
 
 -- the fresh state: the first block then stands in slot 0 of the ring, and nothing is suppressed or slowed
 unfoldable pub freshOf : ℕ → Bool → ℕ → ℕ → TauCanceller
-freshOf parts flag transfers resets = stateOf parts flag (parts - 1) (freshMic one transfers resets)
+freshOf parts flag transfers resets = freshStateOf parts flag (parts - 1) (freshMic one transfers resets)
 
 -- "Creation has no state to give back: its state is then all zero."
 unfoldable pub emptyOf : TauCanceller
-emptyOf = stateOf 0 false 0 (freshMic zero64 0 0)
+emptyOf = freshStateOf 0 false 0 (freshMic zero64 0 0)

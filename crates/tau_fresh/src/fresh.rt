@@ -9,7 +9,7 @@ use tau_state::state::Suppressor;
 use tau_state::state::TauCanceller;
 ghost use mathlib.Core.Path.{_≡_};
 ghost use Prim.Native.Nat.{_≤_};
-ghost use Rattle.tau_fresh.specs.Fresh.{freshMic, stateOf, freshOf, emptyOf};
+ghost use Rattle.tau_fresh.specs.Fresh.{freshMic, freshStateOf, freshOf, emptyOf};
 
 fn fresh_mic(unit: f64, transfers: u64, divergence_resets: u64) -> Mic
     ensures { λ r. ⌜ r ≡ freshMic unit transfers «divergence_resets» ⌝ }
@@ -55,7 +55,7 @@ fn fresh_mic(unit: f64, transfers: u64, divergence_resets: u64) -> Mic
 }
 
 fn state(partitions: usize, suppress: bool, head: usize, mic: Mic) -> TauCanceller
-    ensures { λ r. ⌜ r ≡ stateOf partitions suppress head mic ⌝ }
+    ensures { λ r. ⌜ r ≡ freshStateOf partitions suppress head mic ⌝ }
 {
     let carry = [0.0f32; 256];
     let window = [0.0f32; 512];

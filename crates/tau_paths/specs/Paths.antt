@@ -6,7 +6,8 @@ use lib.Dec.{ltb, leb}
 use lib.Ieee.{Float, binary64, sub, mul, div, lt, le}
 use Rattle.laws.specs.Choice.{pick}
 use Rattle.numbers.specs.Order.{minOf}
-use Rattle.tau_state.specs.Constants.{zero64, one, f0·1, f0·5, f0·75, f0·9, f4, smoothBy, oneMore, oneMore32}
+use Rattle.laws.specs.Counting.{oneMore, oneMore32}
+use Rattle.tau_state.specs.Constants.{zero64, one, f0·1, f0·5, f0·75, f0·9, f4, smoothBy}
 use Rattle.tau_state.specs.Sums.{energyOf}
 use Rattle.tau_clears.specs.Weights.{leaked}
 use Rattle.tau_state.specs.declared.state.Paths.{Paths}

@@ -11,7 +11,7 @@ ghost use mathlib.Core.Path.{_≡_};
 ghost use Prim.Native.Nat.{_≤_};
 ghost use lib.ListN.{length};
 ghost use Rattle.laws.specs.Choice.{pick};
-ghost use Rattle.tau_state.specs.Constants.{oneMore32};
+ghost use Rattle.laws.specs.Counting.{oneMore32};
 ghost use Rattle.tau_paths.specs.Paths.{weighed, leakOf, verdict, acted, compared};
 
 const PATH_ERROR_SMOOTHING: f64 = 0.9;

@@ -1,8 +1,6 @@
--- The constants of the block, by their bits, and what many steps share: smoothing, and counting that holds at its largest.
-use Prim.Native.Nat.{ℕ, _+_, _-_, _^_}
-use lib.Dec.{ltb}
+-- The constants of the block, by their bits, and the smoothing that many steps share.
+use Prim.Native.Nat.{ℕ}
 use lib.Ieee.{Float, binary32, binary64, add, sub, mul, ofBits}
-use Rattle.laws.specs.Choice.{pick}
 
 abbrev pub zero32 : Float
 zero32 = ofBits binary32 0
@@ -70,10 +68,3 @@ f4 = ofBits binary64 0x4010_0000_0000_0000
 -- a * old + (1 - a) * new: 1 - a is a subtraction, and no decimal of its own
 unfoldable pub smoothBy : Float → Float → Float → Float
 smoothBy a old new = add binary64 (mul binary64 a old) (mul binary64 (sub binary64 one a) new)
-
--- one more, and no more than the type holds: "stay at their largest number where Rust would wrap"
-unfoldable pub oneMore : ℕ → ℕ
-oneMore n = pick (ltb n (2 ^ 64 - 1)) (n + 1) n
-
-unfoldable pub oneMore32 : ℕ → ℕ
-oneMore32 n = pick (ltb n (2 ^ 32 - 1)) (n + 1) n

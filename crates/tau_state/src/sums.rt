@@ -2,7 +2,8 @@
 ghost use mathlib.Core.Path.{_≡_};
 ghost use Prim.Native.Nat.{_≤_};
 ghost use Rattle.tau_state.specs.Sums.{energyOf, crossOf};
-ghost use Rattle.tau_state.specs.Constants.{smoothBy, oneMore, oneMore32};
+ghost use Rattle.laws.specs.Counting.{oneMore, oneMore32};
+ghost use Rattle.tau_state.specs.Constants.{smoothBy};
 
 pub fn energy(s: &[f32; 256], valid: usize) -> f64
     requires { ⌜ valid ≤ 256 ⌝ }

@@ -11,7 +11,7 @@
 --     read-again           what was written is read again, where every sample is an f32
 use mathlib.Core.Path.{_≡_, refl, sym, ap, _∙_}
 use mathlib.Core.List.{List, [], _++_, append-assoc, append-nil}
-use Prim.Native.Nat.{ℕ, _+_, _-_, _*_, _/_, _%_, _≤_, _<_}
+use Prim.Native.Nat.{ℕ, _+_, _*_, _/_, _%_, _≤_, _<_}
 use native.Mathlib.Nat.{div-div-eq-div-mul, div-one}
 use native.Mathlib.Omega.{arith}
 use lib.Ieee.{Float, nan, binary32, ofBits, toBits}

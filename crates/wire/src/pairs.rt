@@ -1,7 +1,7 @@
 // Reading.
 use numbers::lesser;
 ghost use mathlib.Core.Path.{_≡_};
-ghost use Prim.Native.Nat.{_+_, _*_, _≤_, _<_};
+ghost use Prim.Native.Nat.{_+_, _*_, _<_};
 ghost use lib.ListN.{length};
 ghost use Rattle.laws.specs.Loops.{over};
 ghost use Rattle.wire.specs.Wire.{patternAt, sampleAt, pairsIn};

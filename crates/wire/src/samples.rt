@@ -1,9 +1,7 @@
 // Writing.
 ghost use mathlib.Core.Path.{_≡_};
-ghost use Prim.Native.Nat.{_*_, _/_, _%_, _<_, _≤_, min};
-ghost use lib.ListN.{length};
-ghost use Rattle.laws.specs.Loops.{over};
-ghost use Rattle.wire.specs.Wire.{placeOf, byteOf, writtenAt};
+ghost use Prim.Native.Nat.{_/_, _%_, _<_};
+ghost use Rattle.wire.specs.Wire.{placeOf, byteOf};
 ghost use Rattle.wire.specs.Promises.{WriteSamples};
 
 // The samples' bytes in a row, as many as there is room for.

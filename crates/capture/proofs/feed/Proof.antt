@@ -35,10 +35,22 @@ feed-spec =
     (λ c. search needs)
     (λ c κs. search needs)
     (λ c κs. search needs)
-    (λ c. let q = few _ _ _ (c .before .before .before .before .before .before .before .before .before .before .whole-pairs .ensures) (c .before .before .before .before .before .before .before .before .before .before .before .before .lesser .ensures) in let k = c .before .before .before .before .before .before .before .before .read-near .kept .1 .0 in omega (arith, q, k))
-    (λ c. let q = few _ _ _ (c .before .before .before .before .before .before .before .before .before .before .before .whole-pairs .ensures) (c .before .before .before .before .before .before .before .before .before .before .before .before .before .lesser .ensures) in let k = c .before .before .before .before .before .before .before .before .before .read-near .kept .1 .0 in sym (length-take-le _ _ (omega (arith, q, k))))
-    (λ c. let q = few _ _ _ (c .before .before .before .before .before .before .before .before .before .before .before .whole-pairs .ensures) (c .before .before .before .before .before .before .before .before .before .before .before .before .before .lesser .ensures) in let k = c .before .before .before .before .before .before .read-far .kept .1 .0 in omega (arith, q, k))
-    (λ c. let q = few _ _ _ (c .before .before .before .before .before .before .before .before .before .before .before .before .whole-pairs .ensures) (c .before .before .before .before .before .before .before .before .before .before .before .before .before .before .lesser .ensures) in let k = c .before .before .before .before .before .before .before .read-far .kept .1 .0 in sym (length-take-le _ _ (omega (arith, q, k))))
+    (λ c. let at-read-near = c .before .before .before .before .before .before .before .before in
+    let at-whole-pairs = at-read-near .before .before in
+    let at-lesser = at-whole-pairs .before .before in
+    let q = few _ _ _ (at-whole-pairs .whole-pairs .ensures) (at-lesser .lesser .ensures) in let k = at-read-near .read-near .kept .1 .0 in omega (arith, q, k))
+    (λ c. let at-read-near = c .before .before .before .before .before .before .before .before .before in
+    let at-whole-pairs = at-read-near .before .before in
+    let at-lesser = at-whole-pairs .before .before in
+    let q = few _ _ _ (at-whole-pairs .whole-pairs .ensures) (at-lesser .lesser .ensures) in let k = at-read-near .read-near .kept .1 .0 in sym (length-take-le _ _ (omega (arith, q, k))))
+    (λ c. let at-read-far = c .before .before .before .before .before .before in
+    let at-whole-pairs = at-read-far .before .before .before .before .before in
+    let at-lesser = at-whole-pairs .before .before in
+    let q = few _ _ _ (at-whole-pairs .whole-pairs .ensures) (at-lesser .lesser .ensures) in let k = at-read-far .read-far .kept .1 .0 in omega (arith, q, k))
+    (λ c. let at-read-far = c .before .before .before .before .before .before .before in
+    let at-whole-pairs = at-read-far .before .before .before .before .before in
+    let at-lesser = at-whole-pairs .before .before in
+    let q = few _ _ _ (at-whole-pairs .whole-pairs .ensures) (at-lesser .lesser .ensures) in let k = at-read-far .read-far .kept .1 .0 in sym (length-take-le _ _ (omega (arith, q, k))))
     (λ c. search needs)
     (λ c. sym (length-take-le _ _ (omega arith)))
     (λ c κs. search needs)

@@ -22,4 +22,7 @@ finish-spec =
     (λ c. search needs)
     (λ c. search needs)
     (λ c. search needs)
-    (λ c. let f = c .before .before .before .before .before .before .before .before .before .before .before .before .flush in flush-written _ _ _ _ _ _ (f .ensures) (f .kept .1 .1 .1 .1 .0) (roomy _ (c .before .before .before .before .before .before .before .before .before .before .before .before .before .before .before .before .before .before .before .before .before .before .args .bytes .now) (c .before .before .before .before .before .before .before .before .before .before .before .before .before .before .before .before .before .lesser .ensures)) (c .before .before .write-samples .ensures)))
+    (λ c. let at-flush = c .before .before .before .before .before .before .before .before .before .before .before .before in
+    let at-lesser = at-flush .before .before .before .before .before in
+    let at-args = at-lesser .before .before .before .before .before in
+    let f = at-flush .flush in flush-written _ _ _ _ _ _ (f .ensures) (f .kept .1 .1 .1 .1 .0) (roomy _ (at-args .args .bytes .now) (at-lesser .lesser .ensures)) (c .before .before .write-samples .ensures)))

@@ -23,4 +23,7 @@ worked-spec =
     (λ c. search needs)
     (λ c. search needs)
     (λ c. search needs)
-    (λ c. let a = c .before .before .before .before .before .before .before .before .before .before .before .before .before .before .before .before .before .before .before .before .before .before .before .before .args in (omega arith, turned _ _ (a .block .now) _ (a .held) (c .before .before .before .before .before .before .before .before .before .before .before .before .before .before .feed .ensures) (search needs) (c .before .before .before .before .before .keep-rest .ensures))))
+    (λ c. let at-keep-rest = c .before .before .before .before .before in
+    let at-feed = at-keep-rest .before .before .before .before .before .before .before .before .before in
+    let at-args = at-feed .before .before .before .before .before .before .before .before .before .before in
+    let a = at-args .args in (omega arith, turned _ _ (a .block .now) _ (a .held) (at-feed .feed .ensures) (search needs) (at-keep-rest .keep-rest .ensures))))

@@ -1,6 +1,6 @@
 -- `block_cases::made::pad` is safe and ends: the place that it writes lies in the buffer, whose length stays. Assumes nothing.
 use mathlib.Core.Path.{_≡_}
-use Prim.Native.Nat.{_-_, _≤_}
+use Prim.Native.Nat.{_-_}
 use lib.ListN.{length, length-set}
 use borrow.Author.Needs.{needs}
 use Rattle.block_cases.proofs.made.pad.Statement.{statement}

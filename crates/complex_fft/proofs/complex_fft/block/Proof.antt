@@ -27,6 +27,8 @@ block-spec =
     (λ c κs. omega arith)
     (λ c. omega arith)
     (λ c. omega arith)
-    (λ c. let at = c .before .before .before .before .before .before .loop in (c .before .before .butterfly-at .kept .0 ∙ at .inv .0, omega arith, iter-next _ _ _ (at .inv .2) (rw (c .before .before .butterfly-at .ensures, c .before .before .before .before .twiddle-at .ensures))))
+    (λ c. let at-twiddle-at = c .before .before .before .before in
+    let at-loop = at-twiddle-at .before .before in
+    let at = at-loop .loop in (c .before .before .butterfly-at .kept .0 ∙ at .inv .0, omega arith, iter-next _ _ _ (at .inv .2) (rw (c .before .before .butterfly-at .ensures, at-twiddle-at .twiddle-at .ensures))))
     (λ c. omega arith)
     (λ c. let e : c .before .loop .j ≡ c .before .before .before .before .args .half = omega arith in rw e at (c .before .loop .inv .2)))

@@ -16,4 +16,8 @@ butterfly-at-spec =
     (λ c. search needs)
     (λ c κs. search needs)
     (λ c. search needs)
-    (λ c. rw (c .before .before .put2 .ensures, c .before .before .before .before .before .before .put .ensures, c .before .before .before .before .before .before .before .before .before .before .butterfly .ensures, c .before .before .before .before .before .before .before .before .before .before .before .get2 .ensures, c .before .before .before .before .before .before .before .before .before .before .before .before .before .get .ensures)))
+    (λ c. let at-put = c .before .before .before .before .before .before in
+    let at-butterfly = at-put .before .before .before .before in
+    let at-get2 = at-butterfly .before in
+    let at-get = at-get2 .before .before in
+    rw (c .before .before .put2 .ensures, at-put .put .ensures, at-butterfly .butterfly .ensures, at-get2 .get2 .ensures, at-get .get .ensures)))

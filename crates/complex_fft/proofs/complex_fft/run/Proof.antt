@@ -13,6 +13,9 @@ run-spec =
     (λ c κs. search needs)
     (λ c κs. search needs)
     (λ c. search needs)
-    (λ c. pick-yes _ _ _ (c .before .before .before .before .if1 .taken) (rw (c .before .before .scale-all .ensures, c .before .before .before .before .before .before .before .all-stages .ensures, c .before .before .before .before .before .before .before .before .before .before .before .permute .ensures)))
+    (λ c. let at-if1 = c .before .before .before .before in
+    let at-all-stages = at-if1 .before .before .before in
+    let at-permute = at-all-stages .before .before .before .before in
+    pick-yes _ _ _ (at-if1 .if1 .taken) (rw (c .before .before .scale-all .ensures, at-all-stages .all-stages .ensures, at-permute .permute .ensures)))
     (λ c. search needs)
     (λ c. pick-no _ _ _ (c .if1 .left) (rw (c .before .before .before .all-stages .ensures, c .before .before .before .before .before .before .before .permute .ensures))))

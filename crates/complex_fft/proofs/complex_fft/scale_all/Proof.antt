@@ -27,6 +27,8 @@ scale-all-spec =
     (λ c κs. omega arith)
     (λ c. omega arith)
     (λ c. omega arith)
-    (λ c. let at = c .before .before .before .before .before .before .before .before .loop in (c .before .before .put .kept .0 ∙ at .inv .0, omega arith, iter-next _ _ _ (at .inv .2) (rw (c .before .before .put .ensures, c .before .before .before .scale .ensures, c .before .before .before .before .before .get .ensures))))
+    (λ c. let at-get = c .before .before .before .before .before in
+    let at-loop = at-get .before .before .before in
+    let at = at-loop .loop in (c .before .before .put .kept .0 ∙ at .inv .0, omega arith, iter-next _ _ _ (at .inv .2) (rw (c .before .before .put .ensures, c .before .before .before .scale .ensures, at-get .get .ensures))))
     (λ c. omega arith)
     (λ c. let e : c .before .loop .i ≡ 256 = omega arith in rw e at (c .before .loop .inv .2)))

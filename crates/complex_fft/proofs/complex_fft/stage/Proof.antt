@@ -22,7 +22,8 @@ stage-spec =
     (λ c. (omega arith, omega arith, iter-none _ _))
     (λ c. omega (arith, room (c .before .before .loop .b) (c .before .before .before .before .before .args .half) (c .before .before .before .before .before .args .stride) (c .before .loop-test .taken) (c .before .before .before .before .before .pre .1 .1)))
     (λ c. omega (arith, room (c .before .before .loop .b) (c .before .before .before .before .before .args .half) (c .before .before .before .before .before .args .stride) (c .before .loop-test .taken) (c .before .before .before .before .before .pre .1 .1)))
-    (λ c κs. omega (arith, room (c .before .before .loop .b) (c .before .before .before .before .before .args .half) (c .before .before .before .before .before .args .stride) (c .before .loop-test .taken) (c .before .before .before .before .before .pre .1 .1)))
+    (λ c κs. let at-args = c .before .before .before .before .before in
+    omega (arith, room (c .before .before .loop .b) (at-args .args .half) (at-args .args .stride) (c .before .loop-test .taken) (at-args .pre .1 .1)))
     (λ c. omega arith)
     (λ c. omega arith)
     (λ c. let at = c .before .before .before .before .before .loop in (c .before .before .block .kept .0 ∙ at .inv .0, omega arith, iter-next _ _ _ (at .inv .2) (c .before .before .block .ensures)))

@@ -13,4 +13,7 @@ swap-spec =
     (λ c κs. search needs)
     (λ c κs. search needs)
     (λ c. search needs)
-    (λ c. rw (c .before .before .put2 .ensures, c .before .before .before .before .before .before .put .ensures, c .before .before .before .before .before .before .before .before .get2 .ensures, c .before .before .before .before .before .before .before .before .before .before .get .ensures)))
+    (λ c. let at-put = c .before .before .before .before .before .before in
+    let at-get2 = at-put .before .before in
+    let at-get = at-get2 .before .before in
+    rw (c .before .before .put2 .ensures, at-put .put .ensures, at-get2 .get2 .ensures, at-get .get .ensures)))

@@ -11,4 +11,5 @@ bin-spec =
     (λ c κs. search needs)
     (λ c κs. search needs)
     (λ c κs. search needs)
-    (λ c. let a = c .before .before .before .before .before .before .args in let p = c .before .before .before .before .before .before .pre .1 .1 .1 in (rw (c .bin-from .ensures, c .before .get .ensures, c .before .before .get-split2 .ensures, c .before .before .before .get-split .ensures) (bin-there (a .table .now) (a .z .now) (a .k) (a .here) (a .mirror) (p .0) (p .1)))))
+    (λ c. let at-args = c .before .before .before .before .before .before in
+    let a = at-args .args in let p = at-args .pre .1 .1 .1 in (rw (c .bin-from .ensures, c .before .get .ensures, c .before .before .get-split2 .ensures, c .before .before .before .get-split .ensures) (bin-there (a .table .now) (a .z .now) (a .k) (a .here) (a .mirror) (p .0) (p .1)))))

@@ -15,4 +15,8 @@ bin-from-spec =
     (λ c κs. search needs)
     (λ c κs. search needs)
     (λ c κs. search needs)
-    (λ c. rw (c .add2 .ensures, c .before .mul .ensures, c .before .before .new .ensures, c .before .before .before .before .before .sub .ensures, c .before .before .before .before .before .before .scale .ensures, c .before .before .before .before .before .before .before .add .ensures, c .before .before .before .before .before .before .before .before .conj .ensures)))
+    (λ c. let at-sub = c .before .before .before .before .before in
+    let at-scale = at-sub .before in
+    let at-add = at-scale .before in
+    let at-conj = at-add .before in
+    rw (c .add2 .ensures, c .before .mul .ensures, c .before .before .new .ensures, at-sub .sub .ensures, at-scale .scale .ensures, at-add .add .ensures, at-conj .conj .ensures)))

@@ -21,8 +21,13 @@ forward-with-spec =
     (λ c. (pick-no _ _ _ (rw (← c .before .before .lent .ensures, not-false (c .before .before .lent .result) (c .before .if1 .left), ne-eqb _ _ (c .if2 .taken))) refl, λ _. refl))
     (λ c. search needs)
     (λ c. (pick-no _ _ _ (rw (← c .before .before .before .lent .ensures, not-false (c .before .before .before .lent .result) (c .before .before .if1 .left), eq-eqb _ _ (c .before .if2 .left), ne-eqb _ _ (c .if3 .taken))) refl, λ _. refl))
-    (λ c κs. let n = lengths (c .before .before .before .before .before .before .before .before .before .before .args .table .now) (c .before .before .before .before .before .before .before .before .before .before .args .scratch .now) (c .before .before .before .before .lent .result) (c .before .before .before .before .lent .ensures) (c .before .before .before .if1 .left) in search (needs, n))
-    (λ c κs. let n = lengths (c .before .before .before .before .before .before .before .before .before .before .before .before .before .before .before .args .table .now) (c .before .before .before .before .before .before .before .before .before .before .before .before .before .before .before .args .scratch .now) (c .before .before .before .before .before .before .before .before .before .lent .result) (c .before .before .before .before .before .before .before .before .before .lent .ensures) (c .before .before .before .before .before .before .before .before .if1 .left) in search (needs, n))
+    (λ c κs. let at-lent = c .before .before .before .before in
+    let at-args = at-lent .before .before .before .before .before .before in
+    let n = lengths (at-args .args .table .now) (at-args .args .scratch .now) (at-lent .lent .result) (at-lent .lent .ensures) (c .before .before .before .if1 .left) in search (needs, n))
+    (λ c κs. let at-if1 = c .before .before .before .before .before .before .before .before in
+    let at-lent = at-if1 .before in
+    let at-args = at-lent .before .before .before .before .before .before in
+    let n = lengths (at-args .args .table .now) (at-args .args .scratch .now) (at-lent .lent .result) (at-lent .lent .ensures) (at-if1 .if1 .left) in search (needs, n))
     (λ c. search needs)
     (λ c. search needs)
     (λ c.

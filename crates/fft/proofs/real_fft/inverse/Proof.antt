@@ -19,4 +19,7 @@ inverse-spec =
     (λ c. search needs)
     (λ c κs. search needs)
     (λ c. search needs)
-    (λ c. pick-yes _ _ _ (rw (eq-eqb _ _ (c .before .before .before .before .before .before .before .before .before .if1 .left), eq-eqb _ _ (c .before .before .before .before .before .before .before .before .if2 .left))) (rw (c .before .before .before .samples-of .ensures, c .before .before .before .before .before .before .before .recombination .ensures, whole-samples))))
+    (λ c. let at-recombination = c .before .before .before .before .before .before .before in
+    let at-if2 = at-recombination .before in
+    let at-if1 = at-if2 .before in
+    pick-yes _ _ _ (rw (eq-eqb _ _ (at-if1 .if1 .left), eq-eqb _ _ (at-if2 .if2 .left))) (rw (c .before .before .before .samples-of .ensures, at-recombination .recombination .ensures, whole-samples))))

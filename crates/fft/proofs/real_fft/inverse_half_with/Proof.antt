@@ -21,8 +21,14 @@ inverse-half-with-spec =
     (λ c. let lent = c .before .before .lent in (pick-no _ _ _ (rw (← lent .ensures, not-false (lent .result) (c .before .if1 .left), ne-eqb _ _ (c .if2 .taken))) refl, λ _. refl))
     (λ c. search needs)
     (λ c. let lent = c .before .before .before .lent in (pick-no _ _ _ (rw (← lent .ensures, not-false (lent .result) (c .before .before .if1 .left), eq-eqb _ _ (c .before .if2 .left), ne-eqb _ _ (c .if3 .taken))) refl, λ _. refl))
-    (λ c κs. let lent = c .before .before .before .before .before .before .lent in let n = lengths (c .before .before .before .before .before .before .before .before .before .before .before .before .args .table .now) (c .before .before .before .before .before .before .before .before .before .before .before .before .args .scratch .now) (lent .result) (lent .ensures) (c .before .before .before .before .before .if1 .left) in search (needs, n))
-    (λ c κs. let lent = c .before .before .before .before .before .before .lent in let n = lengths (c .before .before .before .before .before .before .before .before .before .before .before .before .args .table .now) (c .before .before .before .before .before .before .before .before .before .before .before .before .args .scratch .now) (lent .result) (lent .ensures) (c .before .before .before .before .before .if1 .left) in search (needs, n))
+    (λ c κs. let at-if1 = c .before .before .before .before .before in
+    let at-lent = at-if1 .before in
+    let at-args = at-lent .before .before .before .before .before .before in
+    let lent = at-lent .lent in let n = lengths (at-args .args .table .now) (at-args .args .scratch .now) (lent .result) (lent .ensures) (at-if1 .if1 .left) in search (needs, n))
+    (λ c κs. let at-if1 = c .before .before .before .before .before in
+    let at-lent = at-if1 .before in
+    let at-args = at-lent .before .before .before .before .before .before in
+    let lent = at-lent .lent in let n = lengths (at-args .args .table .now) (at-args .args .scratch .now) (lent .result) (lent .ensures) (at-if1 .if1 .left) in search (needs, n))
     (λ c. search needs)
     (λ c. search needs)
     (λ c.

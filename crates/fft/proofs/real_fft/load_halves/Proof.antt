@@ -27,6 +27,10 @@ load-halves-spec =
     (λ c κs. omega arith)
     (λ c. omega arith)
     (λ c. omega arith)
-    (λ c. let at = c .before .before .before .before .before .before .loop in (c .before .before .put-split .kept .0 ∙ at .inv .0, omega arith, iter-next _ _ _ (at .inv .2) (rw (c .before .before .put-split .ensures, c .before .before .before .before .half-bin .ensures) (ap (putS (at .z) (at .i)) (sym (halves-at (c .before .before .before .before .before .before .before .before .before .before .args .table .now) (c .before .before .before .before .before .before .before .before .before .before .args .spectrum .now) (at .i) (c .before .before .before .before .before .loop-test .taken)))))))
+    (λ c. let at-half-bin = c .before .before .before .before in
+    let at-loop-test = at-half-bin .before in
+    let at-loop = at-loop-test .before in
+    let at-args = at-loop .before .before .before .before in
+    let at = at-loop .loop in (c .before .before .put-split .kept .0 ∙ at .inv .0, omega arith, iter-next _ _ _ (at .inv .2) (rw (c .before .before .put-split .ensures, at-half-bin .half-bin .ensures) (ap (putS (at .z) (at .i)) (sym (halves-at (at-args .args .table .now) (at-args .args .spectrum .now) (at .i) (at-loop-test .loop-test .taken)))))))
     (λ c. omega arith)
     (λ c. let e : c .before .loop .i ≡ 256 = omega arith in rw e at (c .before .loop .inv .2)))

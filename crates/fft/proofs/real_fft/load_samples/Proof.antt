@@ -34,6 +34,9 @@ load-samples-spec =
     (λ c κs. omega arith)
     (λ c. omega arith)
     (λ c. omega arith)
-    (λ c. let at = c .before .before .before .before .before .before .before .before .before .before .loop in (c .before .before .put-split .kept .0 ∙ at .inv .0, omega arith, iter-next _ _ _ (at .inv .2) (rw (c .before .before .put-split .ensures, c .before .before .before .new .ensures, c .before .before .before .before .before .widen2 .ensures, c .before .before .before .before .before .before .before .widen .ensures))))
+    (λ c. let at-widen2 = c .before .before .before .before .before in
+    let at-widen = at-widen2 .before .before in
+    let at-loop = at-widen .before .before .before in
+    let at = at-loop .loop in (c .before .before .put-split .kept .0 ∙ at .inv .0, omega arith, iter-next _ _ _ (at .inv .2) (rw (c .before .before .put-split .ensures, c .before .before .before .new .ensures, at-widen2 .widen2 .ensures, at-widen .widen .ensures))))
     (λ c. omega arith)
     (λ c. let e : c .before .loop .i ≡ 256 = omega arith in rw e at (c .before .loop .inv .2)))

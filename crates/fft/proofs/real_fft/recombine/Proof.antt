@@ -26,14 +26,20 @@ recombine-spec =
     (tie.spec Inv-loop μ-loop
     (λ c κs. omega arith)
     (λ c κs. omega arith)
-    (λ c. let a = c .before .before .before .before .before .before .before .before .args in let n : length (c .before .before .put .last .0) ≡ 514 = c .before .before .put .kept .0 ∙ c .before .before .before .before .before .before .before .before .pre .1 .1 in (n, omega arith, omega arith, n, rw (c .before .before .put .ensures, c .before .before .before .before .bin .ensures) (over2-first (λ k. binOf (a .table .now) (pointsOf (a .z .now)) k .re) (λ k. binOf (a .table .now) (pointsOf (a .z .now)) k .im) (a .out .now) (omega (arith, c .before .before .before .before .before .before .before .before .pre .1 .1)))))
+    (λ c. let at-bin = c .before .before .before .before in
+    let at-args = at-bin .before .before .before .before in
+    let a = at-args .args in let n : length (c .before .before .put .last .0) ≡ 514 = c .before .before .put .kept .0 ∙ at-args .pre .1 .1 in (n, omega arith, omega arith, n, rw (c .before .before .put .ensures, at-bin .bin .ensures) (over2-first (λ k. binOf (a .table .now) (pointsOf (a .z .now)) k .re) (λ k. binOf (a .table .now) (pointsOf (a .z .now)) k .im) (a .out .now) (omega (arith, at-args .pre .1 .1)))))
     (λ c. omega arith)
     (λ c κs. omega arith)
     (λ c κs. omega arith)
     (λ c. omega arith)
     (λ c. omega arith)
-    (λ c. let at = c .before .before .before .before .before .before .loop in (c .before .before .put2 .kept .0 ∙ at .inv .0, omega arith, omega arith, at .inv .3, over2-next nan _ _ _ _ (at .inv .4) (rw (c .before .before .put2 .ensures, c .before .before .before .before .bin2 .ensures))))
+    (λ c. let at-bin2 = c .before .before .before .before in
+    let at-loop = at-bin2 .before .before in
+    let at = at-loop .loop in (c .before .before .put2 .kept .0 ∙ at .inv .0, omega arith, omega arith, at .inv .3, over2-next nan _ _ _ _ (at .inv .4) (rw (c .before .before .put2 .ensures, at-bin2 .bin2 .ensures))))
     (λ c κs. omega arith)
     (λ c κs. omega arith)
     (λ c. c .before .before .put3 .kept .0 ∙ c .before .before .before .before .before .before .loop .inv .0 ∙ sym (c .before .before .before .before .before .before .before .before .before .before .before .before .before .before .before .pre .1 .1))
-    (λ c. let at = c .before .before .before .before .before .before .loop in let e : at .k ≡ 256 = omega arith in over2-next nan _ _ _ 256 (rw e at (at .inv .4)) (rw (c .before .before .put3 .ensures, c .before .before .before .before .bin3 .ensures)) ∙ over2-table nan 257 _ _ _ (at .inv .3)))
+    (λ c. let at-bin3 = c .before .before .before .before in
+    let at-loop = at-bin3 .before .before in
+    let at = at-loop .loop in let e : at .k ≡ 256 = omega arith in over2-next nan _ _ _ 256 (rw e at (at .inv .4)) (rw (c .before .before .put3 .ensures, at-bin3 .bin3 .ensures)) ∙ over2-table nan 257 _ _ _ (at .inv .3)))

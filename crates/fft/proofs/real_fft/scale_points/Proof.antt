@@ -28,6 +28,8 @@ scale-points-spec =
     (λ c κs. omega arith)
     (λ c. omega arith)
     (λ c. omega arith)
-    (λ c. let at = c .before .before .before .before .before .before .before .before .loop in let put = c .before .before .put in (put .kept .0 ∙ at .inv .0, omega arith, iter-next _ _ _ (at .inv .2) (rw (put .ensures, c .before .before .before .scale .ensures, c .before .before .before .before .before .get-split .ensures))))
+    (λ c. let at-get-split = c .before .before .before .before .before in
+    let at-loop = at-get-split .before .before .before in
+    let at = at-loop .loop in let put = c .before .before .put in (put .kept .0 ∙ at .inv .0, omega arith, iter-next _ _ _ (at .inv .2) (rw (put .ensures, c .before .before .before .scale .ensures, at-get-split .get-split .ensures))))
     (λ c. omega arith)
     (λ c. let e : c .before .loop .i ≡ c .before .before .before .args .n = omega arith in rw e at (c .before .loop .inv .2)))

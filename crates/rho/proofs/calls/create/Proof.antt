@@ -19,7 +19,13 @@ create-spec =
     (λ c κs. search needs)
     (λ c κs. search needs)
     (λ c κs. (accepted-settings _ _ _ _ (sym (c .before .before .before .before .before .before .before .before .before .create-refusal .ensures) ∙ c .before .before .before .before .before .before .before .before .if1 .left)) .slow)
-    (λ c κs. let z = accepted-settings _ _ _ _ (sym (c .before .before .before .before .before .before .before .before .before .before .create-refusal .ensures) ∙ c .before .before .before .before .before .before .before .before .before .if1 .left) in omega (arith, z .some, z .sized .weights))
+    (λ c κs. let at-if1 = c .before .before .before .before .before .before .before .before .before in
+    let at-create-refusal = at-if1 .before in
+    let z = accepted-settings _ _ _ _ (sym (at-create-refusal .create-refusal .ensures) ∙ at-if1 .if1 .left) in omega (arith, z .some, z .sized .weights))
     (λ c. search needs)
     (λ c. search needs)
-    (λ c. let z = accepted-settings _ _ _ _ (sym (c .before .before .before .before .before .before .before .before .before .before .before .create-refusal .ensures) ∙ c .before .before .before .before .before .before .before .before .before .before .if1 .left) in rw (← c .before .before .before .before .before .before .before .before .before .before .before .create-refusal .ensures) (pick-yes _ _ _ (eq-eqb _ _ (c .before .before .before .before .before .before .before .before .before .before .if1 .left)) (rw (c .fresh .ensures, c .before .hangover-of .ensures, c .before .before .before .before .clear2 .ensures, c .before .before .before .before .before .before .before .before .clear .ensures, z .sized .weights, z .sized .history)))))
+    (λ c. let at-clear2 = c .before .before .before .before in
+    let at-clear = at-clear2 .before .before .before .before in
+    let at-if1 = at-clear .before .before in
+    let at-create-refusal = at-if1 .before in
+    let z = accepted-settings _ _ _ _ (sym (at-create-refusal .create-refusal .ensures) ∙ at-if1 .if1 .left) in rw (← at-create-refusal .create-refusal .ensures) (pick-yes _ _ _ (eq-eqb _ _ (at-if1 .if1 .left)) (rw (c .fresh .ensures, c .before .hangover-of .ensures, at-clear2 .clear2 .ensures, at-clear .clear .ensures, z .sized .weights, z .sized .history)))))

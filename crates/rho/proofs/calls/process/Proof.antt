@@ -15,7 +15,8 @@ process-spec =
     (λ c κs. search needs)
     (λ c κs. search needs)
     (λ c. rw (c .answer-of .ensures, ← c .before .before .process-refusal .ensures) (pick-no _ _ _ (ne-eqb _ _ (c .before .if1 .taken)) refl))
-    (λ c κs. let z = accepted-pairs _ _ _ _ _ _ (sym (c .before .before .before .before .process-refusal .ensures) ∙ c .before .before .before .if1 .left) in (z .state .sized .weights, (z .state .sized .history, (z .state .ranged .ring, (z .pairs .level, z .pairs .room)))))
+    (λ c κs. let at-process-refusal = c .before .before .before .before in
+    let z = accepted-pairs _ _ _ _ _ _ (sym (at-process-refusal .process-refusal .ensures) ∙ c .before .before .before .if1 .left) in (z .state .sized .weights, (z .state .sized .history, (z .state .ranged .ring, (z .pairs .level, z .pairs .room)))))
     (λ c κs. search needs)
     (λ c. search needs)
     (λ c. search needs)

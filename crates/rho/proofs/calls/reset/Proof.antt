@@ -19,4 +19,7 @@ reset-spec =
     (λ c κs. (accepted-state _ _ _ (sym (c .before .before .before .before .before .before .before .before .before .state-refusal .ensures) ∙ c .before .before .before .before .before .before .before .before .if1 .left)) .ranged .some)
     (λ c. search needs)
     (λ c. search needs)
-    (λ c. let z = accepted-state _ _ _ (sym (c .before .before .before .before .before .before .before .before .before .before .state-refusal .ensures) ∙ c .before .before .before .before .before .before .before .before .before .if1 .left) in rw (← c .before .before .before .before .before .before .before .before .before .before .state-refusal .ensures) (pick-yes _ _ _ (eq-eqb _ _ (c .before .before .before .before .before .before .before .before .before .if1 .left)) (rw (c .fresh .ensures, c .before .before .before .clear2 .ensures, c .before .before .before .before .before .before .before .clear .ensures, z .sized .weights, z .sized .history)))))
+    (λ c. let at-clear = c .before .before .before .before .before .before .before in
+    let at-if1 = at-clear .before .before in
+    let at-state-refusal = at-if1 .before in
+    let z = accepted-state _ _ _ (sym (at-state-refusal .state-refusal .ensures) ∙ at-if1 .if1 .left) in rw (← at-state-refusal .state-refusal .ensures) (pick-yes _ _ _ (eq-eqb _ _ (at-if1 .if1 .left)) (rw (c .fresh .ensures, c .before .before .before .clear2 .ensures, at-clear .clear .ensures, z .sized .weights, z .sized .history)))))

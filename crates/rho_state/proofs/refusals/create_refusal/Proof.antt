@@ -15,5 +15,7 @@ create-refusal-spec =
     (λ c. pick-no _ _ _ (sym (c .before .settings-fit .ensures) ∙ not-true (c .before .settings-fit .result) (c .if1 .taken)) refl)
     (λ c κs. search needs)
     (λ c κs. search needs)
-    (λ c. pick-yes _ _ _ (sym (c .before .before .before .before .settings-fit .ensures) ∙ not-false (c .before .before .before .before .settings-fit .result) (c .before .before .before .if1 .left)) (pick-no _ _ _ (rw (← c .before .before .taps-of .ensures, ← c .before .sizes-fit .ensures) (not-true (c .before .sizes-fit .result) (c .if2 .taken))) refl))
-    (λ c. pick-yes _ _ _ (sym (c .before .before .before .before .settings-fit .ensures) ∙ not-false (c .before .before .before .before .settings-fit .result) (c .before .before .before .if1 .left)) (pick-yes _ _ _ (rw (← c .before .before .taps-of .ensures, ← c .before .sizes-fit .ensures) (not-false (c .before .sizes-fit .result) (c .if2 .left))) refl)))
+    (λ c. let at-settings-fit = c .before .before .before .before in
+    pick-yes _ _ _ (sym (at-settings-fit .settings-fit .ensures) ∙ not-false (at-settings-fit .settings-fit .result) (c .before .before .before .if1 .left)) (pick-no _ _ _ (rw (← c .before .before .taps-of .ensures, ← c .before .sizes-fit .ensures) (not-true (c .before .sizes-fit .result) (c .if2 .taken))) refl))
+    (λ c. let at-settings-fit = c .before .before .before .before in
+    pick-yes _ _ _ (sym (at-settings-fit .settings-fit .ensures) ∙ not-false (at-settings-fit .settings-fit .result) (c .before .before .before .if1 .left)) (pick-yes _ _ _ (rw (← c .before .before .taps-of .ensures, ← c .before .sizes-fit .ensures) (not-false (c .before .sizes-fit .result) (c .if2 .left))) refl)))

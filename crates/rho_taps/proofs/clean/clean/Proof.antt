@@ -1,5 +1,5 @@
 -- `rho_taps::clean::clean` meets its contract: a sum that is no NaN has no term that is one. Assumes nothing.
-use mathlib.Core.Path.{_≡_, refl, sym, ap, _∙_}
+use mathlib.Core.Path.{_≡_, refl, sym}
 use mathlib.Core.Bool.{Bool, true, false, not}
 use borrow.Author.Needs.{needs}
 use lib.Ieee.{binary32}

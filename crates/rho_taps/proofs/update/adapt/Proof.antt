@@ -19,8 +19,17 @@ adapt-spec =
     (λ c κs. search needs)
     (λ c κs. search needs)
     (λ c. search needs)
-    (λ c. pick-yes _ _ _ (not-false _ (c .before .before .before .before .before .before .before .if1 .left)) (pick-yes _ _ _ (eq-eqb _ _ (c .before .before .before .before .before .before .if2 .left)) (pick-yes _ _ _ (rw (← c .before .before .before .before .before .scale-of .ensures, ← c .before .before .before .update .ensures .1) (c .if3 .taken)) (rw (c .before .before .before .update .ensures .0, c .before .before .before .before .before .scale-of .ensures)))))
+    (λ c. let at-scale-of = c .before .before .before .before .before in
+    let at-if2 = at-scale-of .before in
+    let at-if1 = at-if2 .before in
+    pick-yes _ _ _ (not-false _ (at-if1 .if1 .left)) (pick-yes _ _ _ (eq-eqb _ _ (at-if2 .if2 .left)) (pick-yes _ _ _ (rw (← at-scale-of .scale-of .ensures, ← c .before .before .before .update .ensures .1) (c .if3 .taken)) (rw (c .before .before .before .update .ensures .0, at-scale-of .scale-of .ensures)))))
     (λ c κs. search needs)
     (λ c κs. search needs)
     (λ c. search needs)
-    (λ c. pick-yes _ _ _ (not-false _ (c .before .before .before .before .before .before .before .before .before .before .before .before .if1 .left)) (pick-yes _ _ _ (eq-eqb _ _ (c .before .before .before .before .before .before .before .before .before .before .before .if2 .left)) (pick-no _ _ _ (rw (← c .before .before .before .before .before .before .before .before .before .before .scale-of .ensures, ← c .before .before .before .before .before .before .before .before .update .ensures .1) (c .before .before .before .before .before .if3 .left)) (let k = c .before .before .before .before .before .before .before .before .update .kept .1 .1 .1 .0 ∙ c .before .before .before .before .before .before .before .before .before .before .before .before .before .before .before .pre .0 in rw (c .one-more2 .ensures, c .before .before .before .clear2 .ensures, k))))))
+    (λ c. let at-if3 = c .before .before .before .before .before in
+    let at-update = at-if3 .before .before .before in
+    let at-scale-of = at-update .before .before in
+    let at-if2 = at-scale-of .before in
+    let at-if1 = at-if2 .before in
+    let start = at-if1 .before .before .before in
+    pick-yes _ _ _ (not-false _ (at-if1 .if1 .left)) (pick-yes _ _ _ (eq-eqb _ _ (at-if2 .if2 .left)) (pick-no _ _ _ (rw (← at-scale-of .scale-of .ensures, ← at-update .update .ensures .1) (at-if3 .if3 .left)) (let k = at-update .update .kept .1 .1 .1 .0 ∙ start .pre .0 in rw (c .one-more2 .ensures, c .before .before .before .clear2 .ensures, k))))))

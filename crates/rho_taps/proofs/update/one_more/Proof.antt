@@ -2,7 +2,7 @@ use mathlib.Core.Path.{refl}
 use borrow.Author.Needs.{needs}
 use borrow.Author.Tests.{lt-ltb, le-ltb}
 use Rattle.laws.specs.Choice.{pick-yes, pick-no}
-use Rattle.rho_taps.specs.Update.{oneMore}
+use Rattle.laws.specs.Counting.{oneMore}
 use Rattle.rho_taps.proofs.update.one_more.Statement.{statement}
 use Rattle.rho_taps.proofs.update.one_more.Tie as tie
 

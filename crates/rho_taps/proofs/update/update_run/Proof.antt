@@ -1,5 +1,5 @@
 -- `rho_taps::update_run` meets its contract: a group is 32 weights more of one `overAt`, and what is left goes to the end of the run. Assumes nothing.
-use mathlib.Core.Path.{_≡_, ap, _∙_}
+use mathlib.Core.Path.{_≡_}
 use mathlib.Core.Bool.{true, _&&_}
 use Prim.Native.Nat.{ℕ, _+_, _-_, _≤_}
 use native.Mathlib.Omega.{arith}

@@ -13,4 +13,7 @@ all-passes-spec =
     (λ c κs. search needs)
     (λ c κs. search needs)
     (λ c. search needs)
-    (λ c. rw (c .before .before .pass1 .ensures, c .before .before .before .before .before .before .pass4 .ensures, c .before .before .before .before .before .before .before .before .before .before .pass16 .ensures, c .before .before .before .before .before .before .before .before .before .before .before .before .before .before .pass64 .ensures)))
+    (λ c. let at-pass4 = c .before .before .before .before .before .before in
+    let at-pass16 = at-pass4 .before .before .before .before in
+    let at-pass64 = at-pass16 .before .before .before .before in
+    rw (c .before .before .pass1 .ensures, at-pass4 .pass4 .ensures, at-pass16 .pass16 .ensures, at-pass64 .pass64 .ensures)))

@@ -27,6 +27,8 @@ pass4-spec =
     (λ c κs. omega arith)
     (λ c. omega arith)
     (λ c. omega arith)
-    (λ c. let at = c .before .before .before .before .before .before .loop in (c .before .before .row4 .kept .0 ∙ at .inv .0, omega arith, iter-next _ _ _ (at .inv .2) (rw (add-zero, c .before .before .row4 .ensures, c .before .before .before .before .turns-at .ensures))))
+    (λ c. let at-turns-at = c .before .before .before .before in
+    let at-loop = at-turns-at .before .before in
+    let at = at-loop .loop in (c .before .before .row4 .kept .0 ∙ at .inv .0, omega arith, iter-next _ _ _ (at .inv .2) (rw (add-zero, c .before .before .row4 .ensures, at-turns-at .turns-at .ensures))))
     (λ c. omega arith)
     (λ c. let e : c .before .loop .j ≡ 16 = omega arith in rw e at (c .before .loop .inv .2)))

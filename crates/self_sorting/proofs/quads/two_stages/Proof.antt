@@ -12,4 +12,8 @@ two-stages-spec =
     (λ c κs. search needs)
     (λ c κs. search needs)
     (λ c κs. search needs)
-    (λ c. rw (c .before .before .before .before .butterfly4 .ensures, c .before .before .before .before .before .butterfly3 .ensures, c .before .before .before .before .before .before .before .before .before .before .butterfly2 .ensures, c .before .before .before .before .before .before .before .before .before .before .before .butterfly .ensures)))
+    (λ c. let at-butterfly4 = c .before .before .before .before in
+    let at-butterfly3 = at-butterfly4 .before in
+    let at-butterfly2 = at-butterfly3 .before .before .before .before .before in
+    let at-butterfly = at-butterfly2 .before in
+    rw (at-butterfly4 .butterfly4 .ensures, at-butterfly3 .butterfly3 .ensures, at-butterfly2 .butterfly2 .ensures, at-butterfly .butterfly .ensures)))

@@ -12,4 +12,6 @@ deliver-spec =
     (λ c κs. search needs)
     (λ c κs. c .before .before .before .before .before .before .before .before .before .before .before .before .before .before .before .before .before .before .before .pre .1)
     (λ c. search needs)
-    (λ c. rw (← c .before .before .before .before .before .before .before .before .before .before .before .before .before .before .suppress .ensures, ← c .before .before .before .before .before .before .guard .ensures, ← c .before .before .host-powers .ensures)))
+    (λ c. let at-guard = c .before .before .before .before .before .before in
+    let at-suppress = at-guard .before .before .before .before .before .before .before .before in
+    rw (← at-suppress .suppress .ensures, ← at-guard .guard .ensures, ← c .before .before .host-powers .ensures)))

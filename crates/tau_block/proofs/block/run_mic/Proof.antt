@@ -10,9 +10,28 @@ run-mic-spec =
     (tie.spec
     (λ c κs. search needs)
     (λ c κs. let p = c .before .before .before .before .before .before .before .before .before .before .before .before .before .before .before .pre in let l = p .1 in (p .0, (l .0, l .1, l .2, l .3, l .4)))
-    (λ c κs. let l = c .before .before .before .before .before .before .before .before .before .before .before .before .before .before .before .before .before .before .before .before .before .before .before .before .before .before .before .pre .1 in (l .5, omega (arith, l, c .before .before .before .before .before .before .before .before .before .before .before .filter .kept)))
-    (λ c κs. let p = c .before .before .before .before .before .before .before .before .before .before .before .before .before .before .before .before .before .before .before .before .before .before .before .before .before .before .before .before .before .before .before .before .before .before .before .before .before .before .before .before .before .before .pre in let l = p .1 in (p .0, (omega (arith, l, c .before .before .before .before .before .before .before .before .before .before .before .before .before .before .before .before .before .before .before .before .before .before .before .before .before .before .filter .kept, c .before .before .before .before .before .before .before .before .before .before .before .before .before .before .judge .kept), l .2, l .3, l .4)))
-    (λ c κs. let p = c .before .before .before .before .before .before .before .before .before .before .before .before .before .before .before .before .before .before .before .before .before .before .before .before .before .before .before .before .before .before .before .before .before .before .before .before .before .before .before .before .before .before .before .before .before .before .before .before .before .before .before .before .before .before .before .pre in (p .0, p .1 .5))
-    (λ c. omega (arith, c .before .before .before .before .before .before .before .before .before .before .before .before .before .before .before .before .before .before .before .before .before .before .before .before .before .before .before .before .before .before .before .before .before .before .before .before .before .before .before .before .before .before .before .before .before .before .before .before .before .before .before .before .before .before .before .before .before .before .before .before .before .pre .1, c .before .before .before .before .before .before .before .before .before .before .before .before .before .before .before .before .before .before .before .before .before .before .before .before .before .before .before .before .before .before .before .before .before .before .before .before .before .before .before .before .before .before .before .before .before .filter .kept, c .before .before .before .before .before .before .before .before .before .before .before .before .before .before .before .before .before .before .before .before .before .before .before .before .before .before .before .before .before .before .before .before .before .judge .kept, c .before .before .before .before .before .before .before .before .before .before .before .before .before .before .before .before .before .before .adapt-shadow .kept))
-    (λ c. omega (arith, c .before .before .before .before .before .before .before .before .before .before .before .before .before .before .before .before .before .before .before .before .before .before .before .before .before .before .before .before .before .before .before .before .before .before .before .before .before .before .before .before .before .before .before .before .before .before .before .before .before .before .before .before .before .before .before .before .before .before .before .before .before .pre .1, c .before .before .before .before .before .before .before .before .before .before .before .before .before .before .before .before .before .before .before .before .before .before .before .before .before .before .before .before .before .before .before .before .before .before .before .before .before .before .before .before .before .before .before .before .before .filter .kept, c .before .before .before .before .before .before .before .before .before .before .before .before .before .before .before .before .before .before .before .before .before .before .before .before .before .before .before .before .before .before .before .before .before .judge .kept, c .before .before .before .before .before .deliver .kept))
-    (λ c. listen-lent _ _ _ _ _ _ _ _ _ _ _ _ _ _ (c .before .before .before .before .before .before .before .before .before .before .before .before .before .before .before .before .before .before .before .before .before .before .before .before .before .before .before .before .before .before .before .before .before .before .before .before .before .before .before .before .before .before .before .before .before .before .before .before .before .before .before .before .before .before .before .before .before .energy .ensures) (c .before .before .before .before .before .before .before .before .before .before .before .before .before .before .before .before .before .before .before .before .before .before .before .before .before .before .before .before .before .before .before .before .before .before .before .before .before .before .before .before .before .before .before .before .before .filter .ensures) (c .before .before .before .before .before .before .before .before .before .before .before .before .before .before .before .before .before .before .before .before .before .before .before .before .before .before .before .before .before .before .before .before .before .judge .ensures) (c .before .before .before .before .before .before .before .before .before .before .before .before .before .before .before .before .before .before .adapt-shadow .ensures) (c .before .before .before .before .before .deliver .ensures)))
+    (λ c κs. let at-filter = c .before .before .before .before .before .before .before .before .before .before .before in
+    let start = at-filter .before .before .before .before .before .before .before .before .before .before .before .before .before .before .before .before in
+    let l = start .pre .1 in (l .5, omega (arith, l, at-filter .filter .kept)))
+    (λ c κs. let at-judge = c .before .before .before .before .before .before .before .before .before .before .before .before .before .before in
+    let at-filter = at-judge .before .before .before .before .before .before .before .before .before .before .before .before in
+    let start = at-filter .before .before .before .before .before .before .before .before .before .before .before .before .before .before .before .before in
+    let p = start .pre in let l = p .1 in (p .0, (omega (arith, l, at-filter .filter .kept, at-judge .judge .kept), l .2, l .3, l .4)))
+    (λ c κs. let start = c .before .before .before .before .before .before .before .before .before .before .before .before .before .before .before .before .before .before .before .before .before .before .before .before .before .before .before .before .before .before .before .before .before .before .before .before .before .before .before .before .before .before .before .before .before .before .before .before .before .before .before .before .before .before .before in
+    let p = start .pre in (p .0, p .1 .5))
+    (λ c. let at-adapt-shadow = c .before .before .before .before .before .before .before .before .before .before .before .before .before .before .before .before .before .before in
+    let at-judge = at-adapt-shadow .before .before .before .before .before .before .before .before .before .before .before .before .before .before .before in
+    let at-filter = at-judge .before .before .before .before .before .before .before .before .before .before .before .before in
+    let start = at-filter .before .before .before .before .before .before .before .before .before .before .before .before .before .before .before .before in
+    omega (arith, start .pre .1, at-filter .filter .kept, at-judge .judge .kept, at-adapt-shadow .adapt-shadow .kept))
+    (λ c. let at-deliver = c .before .before .before .before .before in
+    let at-judge = at-deliver .before .before .before .before .before .before .before .before .before .before .before .before .before .before .before .before .before .before .before .before .before .before .before .before .before .before .before .before in
+    let at-filter = at-judge .before .before .before .before .before .before .before .before .before .before .before .before in
+    let start = at-filter .before .before .before .before .before .before .before .before .before .before .before .before .before .before .before .before in
+    omega (arith, start .pre .1, at-filter .filter .kept, at-judge .judge .kept, at-deliver .deliver .kept))
+    (λ c. let at-deliver = c .before .before .before .before .before in
+    let at-adapt-shadow = at-deliver .before .before .before .before .before .before .before .before .before .before .before .before .before in
+    let at-judge = at-adapt-shadow .before .before .before .before .before .before .before .before .before .before .before .before .before .before .before in
+    let at-filter = at-judge .before .before .before .before .before .before .before .before .before .before .before .before in
+    let at-energy = at-filter .before .before .before .before .before .before .before .before .before .before .before .before in
+    listen-lent _ _ _ _ _ _ _ _ _ _ _ _ _ _ (at-energy .energy .ensures) (at-filter .filter .ensures) (at-judge .judge .ensures) (at-adapt-shadow .adapt-shadow .ensures) (at-deliver .deliver .ensures)))

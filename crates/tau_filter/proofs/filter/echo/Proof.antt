@@ -1,7 +1,7 @@
 use Rattle.tau_filter.specs.Filter.{echoTo}
 use Rattle.tau_spectra.specs.Ring.{ringOf}
 use mathlib.Core.Path.{_≡_, refl}
-use Prim.Native.Nat.{_-_, _+_, _≤_}
+use Prim.Native.Nat.{_-_, _≤_}
 use Rattle.laws.specs.Loops.{loops, iter-next}
 use Rattle.laws.specs.Parts.{part-is}
 use Rattle.tau_filter.proofs.filter.echo.Statement.{statement}
@@ -37,5 +37,7 @@ echo-spec =
     (λ c κs. search needs)
     (λ c. search needs)
     (λ c. search needs)
-    (λ c. (search needs, iter-next _ _ _ (c .before .before .before .before .before .before .loop .inv .1) (echo-turn _ _ _ _ _ _ (c .before .before .before .before .slot-of .ensures .0) (part-is 514 _ _ _ refl) (part-is 514 _ _ _ refl) (c .multiply-add .ensures))))
+    (λ c. let at-slot-of = c .before .before .before .before in
+    let at-loop = at-slot-of .before .before in
+    (search needs, iter-next _ _ _ (at-loop .loop .inv .1) (echo-turn _ _ _ _ _ _ (at-slot-of .slot-of .ensures .0) (part-is 514 _ _ _ refl) (part-is 514 _ _ _ refl) (c .multiply-add .ensures))))
     (λ c. search (needs, loops)))

@@ -1,9 +1,8 @@
 use Rattle.tau_filter.specs.Filter.{added}
-use mathlib.Core.Path.{_≡_, _∙_}
-use Prim.Native.Nat.{_-_, _+_, _≤_}
+use mathlib.Core.Path.{_≡_}
+use Prim.Native.Nat.{_-_, _≤_}
 use native.Mathlib.Omega.{arith}
 use lib.Ieee.{nan}
-use lib.ListN.{length}
 use Rattle.laws.specs.Loops.{over2-none, over2-next, over2-end}
 use Rattle.tau_filter.proofs.filter.multiply_add.Statement.{statement}
 use Rattle.tau_filter.proofs.filter.multiply_add.Tie as tie
@@ -29,5 +28,9 @@ multiply-add-spec =
     (λ c κs. search needs)
     (λ c. search needs)
     (λ c. search needs)
-    (λ c. (search needs, over2-next nan _ _ _ _ (c .before .before .before .before .before .before .before .before .before .before .loop .inv .1) (rw (c .put .ensures, c .before .before .add .ensures, c .before .before .before .mul .ensures, c .before .before .before .before .get3 .ensures, c .before .before .before .before .before .get2 .ensures, c .before .before .before .before .before .before .get .ensures))))
+    (λ c. let at-get3 = c .before .before .before .before in
+    let at-get2 = at-get3 .before in
+    let at-get = at-get2 .before in
+    let at-loop = at-get .before .before .before .before in
+    (search needs, over2-next nan _ _ _ _ (at-loop .loop .inv .1) (rw (c .put .ensures, c .before .before .add .ensures, c .before .before .before .mul .ensures, at-get3 .get3 .ensures, at-get2 .get2 .ensures, at-get .get .ensures))))
     (λ c. over2-end nan _ _ _ _ _ (c .before .loop .inv .1) (omega arith) (omega arith)))

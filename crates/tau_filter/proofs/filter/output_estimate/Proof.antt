@@ -15,6 +15,13 @@ output-estimate-spec =
     (λ c κs. search needs)
     (λ c. search needs)
     (λ c. search needs)
-    (λ c. pick-yes _ _ _ (rw (← c .before .before .before .before .before .before .before .before .before .before .before .before .before .before .before .before .before .before .before .before .echo .ensures, ← c .before .before .before .before .before .before .before .before .before .before .before .before .before .before .before .before .later-half .ensures, ← c .before .before .before .before .before .before .before .before .before .before .before .before .before .errors .ensures .1) (c .before .before .before .before .before .before .before .before .before .before .before .before .if1 .taken)) (rw (← c .before .before .before .before .before .before .diverge .ensures, c .before .before .before .before .before .before .before .before .before .before .before .before .before .before .before .before .before .before .before .before .echo .ensures)))
+    (λ c. let at-diverge = c .before .before .before .before .before .before in
+    let at-if1 = at-diverge .before .before .before .before .before .before in
+    let at-errors = at-if1 .before in
+    let at-later-half = at-errors .before .before .before in
+    let at-echo = at-later-half .before .before .before .before in
+    pick-yes _ _ _ (rw (← at-echo .echo .ensures, ← at-later-half .later-half .ensures, ← at-errors .errors .ensures .1) (at-if1 .if1 .taken)) (rw (← at-diverge .diverge .ensures, at-echo .echo .ensures)))
     (λ c. search needs)
-    (λ c. pick-no _ _ _ (rw (← c .before .before .before .before .before .before .before .before .echo .ensures, ← c .before .before .before .before .later-half .ensures, ← c .before .errors .ensures .1) (c .if1 .left)) (rw (c .before .errors .ensures .0, c .before .before .before .before .later-half .ensures, c .before .before .before .before .before .before .before .before .echo .ensures))))
+    (λ c. let at-later-half = c .before .before .before .before in
+    let at-echo = at-later-half .before .before .before .before in
+    pick-no _ _ _ (rw (← at-echo .echo .ensures, ← at-later-half .later-half .ensures, ← c .before .errors .ensures .1) (c .if1 .left)) (rw (c .before .errors .ensures .0, at-later-half .later-half .ensures, at-echo .echo .ensures))))

@@ -1,4 +1,4 @@
-use mathlib.Core.Path.{_≡_, refl}
+use mathlib.Core.Path.{refl}
 use native.Mathlib.Omega.{arith}
 use borrow.Author.Tests.{eq-eqb}
 use Rattle.laws.specs.Choice.{pick-yes}
@@ -19,7 +19,9 @@ flush-block-spec =
     (λ c. rw (c .stay .ensures) (pick-yes _ _ _ (eq-eqb _ _ (c .before .if1 .taken)) refl, (refl, omega arith)))
     (λ c κs. c .before .before .before .before .before .before .pre .0 .waiting)
     (λ c κs. c .before .before .before .before .before .before .before .before .pre .0 .waiting)
-    (λ c κs. let p = c .before .before .before .before .before .before .before .before .before .before .before .before .before .before .before .before .before .before .before .before .before .pre in (p .1 .0, (p .0 .inring, p .0 .most, omega (arith, p .0 .waiting), omega (arith, c .before .before .before .before .before .before .before .before .before .before .before .before .before .before .before .before .if1 .left))))
+    (λ c κs. let at-if1 = c .before .before .before .before .before .before .before .before .before .before .before .before .before .before .before .before in
+    let start = at-if1 .before .before .before .before .before in
+    let p = start .pre in (p .1 .0, (p .0 .inring, p .0 .most, omega (arith, p .0 .waiting), omega (arith, at-if1 .if1 .left))))
     (λ c. block-count _ _ _ _ (c .before .before .before .before .before .before .before .run-lent .ensures))
     (λ c κs. let ran = c .before .before .before .before .before .before .before .before in
     let p = ran .before .before .before .before .before .before .before .before .before .before .before .before .before .before .before .before .before .before .before .before .before .before .pre in

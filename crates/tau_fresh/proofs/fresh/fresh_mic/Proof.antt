@@ -1,5 +1,5 @@
 use Rattle.tau_fresh.specs.Fresh.{freshMic}
-use mathlib.Core.Path.{_≡_, refl, sym, _∙_}
+use mathlib.Core.Path.{refl}
 use Rattle.tau_fresh.proofs.fresh.fresh_mic.Statement.{statement}
 use Rattle.tau_fresh.proofs.fresh.fresh_mic.Tie as tie
 use borrow.Author.Needs.{needs}

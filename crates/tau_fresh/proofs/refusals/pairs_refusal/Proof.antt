@@ -1,5 +1,5 @@
 use Rattle.tau_fresh.specs.Refusals.{pairsRefusal}
-use Rattle.laws.specs.Choice.{pick-yes, pick-no, choices}
+use Rattle.laws.specs.Choice.{choices}
 use borrow.Author.Needs.{needs}
 use Rattle.tau_fresh.proofs.refusals.pairs_refusal.Statement.{statement}
 use Rattle.tau_fresh.proofs.refusals.pairs_refusal.Tie as tie

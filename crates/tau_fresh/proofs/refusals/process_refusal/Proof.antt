@@ -1,7 +1,7 @@
 use Rattle.tau_fresh.specs.Refusals.{processRefusal}
-use borrow.Author.Tests.{not-true, not-false, eq-eqb, ne-eqb, lt-leb, le-leb}
+use borrow.Author.Tests.{eq-eqb, ne-eqb}
 use Rattle.laws.specs.Choice.{pick-yes, pick-no, choices}
-use mathlib.Core.Path.{_≡_, refl, sym, _∙_}
+use mathlib.Core.Path.{refl, sym, _∙_}
 use Rattle.tau_fresh.proofs.Accepted.{accepted-state}
 use borrow.Author.Needs.{needs}
 use Rattle.tau_fresh.proofs.refusals.process_refusal.Statement.{statement}

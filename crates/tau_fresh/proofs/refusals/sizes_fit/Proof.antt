@@ -1,5 +1,5 @@
 use Rattle.tau_fresh.specs.Refusals.{sizedOf}
-use borrow.Author.Tests.{not-true, not-false, eq-eqb, ne-eqb, lt-leb, le-leb}
+use borrow.Author.Tests.{eq-eqb, ne-eqb}
 use borrow.Author.Needs.{needs}
 use Rattle.tau_fresh.proofs.refusals.sizes_fit.Statement.{statement}
 use Rattle.tau_fresh.proofs.refusals.sizes_fit.Tie as tie

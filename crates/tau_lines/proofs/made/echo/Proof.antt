@@ -1,6 +1,6 @@
 -- `tau_lines::made::echo` is safe and ends: the places that it reads and writes are there, near's length staying. Assumes nothing.
 use mathlib.Core.Path.{_≡_}
-use Prim.Native.Nat.{_-_, _≤_}
+use Prim.Native.Nat.{_-_}
 use lib.ListN.{length, length-set}
 use borrow.Author.Needs.{needs}
 use Rattle.tau_lines.proofs.made.echo.Statement.{statement}

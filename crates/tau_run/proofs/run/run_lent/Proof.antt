@@ -11,8 +11,13 @@ run-lent-spec =
     (tie.spec
     (λ c κs. search needs)
     (λ c κs. let p = c .before .before .before .before .before .before .before .before .pre in (c .before .before .before .before .recombination .ensures, (p .0 .2, p .1 .0, p .1 .1)))
-    (λ c κs. let p = c .before .before .before .before .before .before .before .before .before .before .before .before .before .before .before .before .before .before .before .before .before .before .before .pre in (c .before .before .before .before .before .before .before .before .before .before .before .before .before .before .before .before .before .before .before .recombination .ensures, (p .0 .0, p .0 .1, omega (arith, p .0, c .before .before .before .before .before .before .before .before .before .before .before .before .before .before .hear .kept), c .before .before .before .before .before .before .before .before .before .before .before .before .before .before .hear .ensures .1, p .1 .1, p .1 .2)))
+    (λ c κs. let at-hear = c .before .before .before .before .before .before .before .before .before .before .before .before .before .before in
+    let at-recombination = at-hear .before .before .before .before .before in
+    let start = at-recombination .before .before .before .before in
+    let p = start .pre in (at-recombination .recombination .ensures, (p .0 .0, p .0 .1, omega (arith, p .0, at-hear .hear .kept), at-hear .hear .ensures .1, p .1 .1, p .1 .2)))
     (λ c. search needs)
     (λ c. search needs)
     (λ c. omega (arith, c .before .before .before .before .before .before .before .before .before .before .before .before .before .before .before .before .before .before .before .before .hear .kept))
-    (λ c. rw (← c .before .before .before .before .before .before .before .before .before .before .before .before .before .before .before .before .before .before .before .before .hear .ensures .0, ← c .before .before .before .before .before .run-mic .ensures)))
+    (λ c. let at-run-mic = c .before .before .before .before .before in
+    let at-hear = at-run-mic .before .before .before .before .before .before .before .before .before .before .before .before .before .before .before in
+    rw (← at-hear .hear .ensures .0, ← at-run-mic .run-mic .ensures)))

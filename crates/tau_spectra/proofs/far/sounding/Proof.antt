@@ -1,6 +1,6 @@
 use Rattle.tau_spectra.specs.Far.{sounds}
 use mathlib.Core.Path.{_≡_}
-use Prim.Native.Nat.{_-_, _+_, _≤_}
+use Prim.Native.Nat.{_-_, _≤_}
 use Rattle.laws.specs.Loops.{loops}
 use Rattle.tau_spectra.proofs.far.sounding.Statement.{statement}
 use Rattle.tau_spectra.proofs.far.sounding.Tie as tie

@@ -13,4 +13,5 @@ first-half-spec =
     (tie.spec
     (λ c κs. search needs)
     (λ c. search needs)
-    (λ c. rw (c .before .before .before .before .before .before .before .before .pre .0) at (ap (λ (w : Wrote). w .out) (c .before .before .inverse-half-with .ensures .0 ∙ half-with-served _ _ (search needs) (search needs) _ _ _ (search needs) (search needs)))))
+    (λ c. let start = c .before .before .before .before .before .before .before .before in
+    rw (start .pre .0) at (ap (λ (w : Wrote). w .out) (c .before .before .inverse-half-with .ensures .0 ∙ half-with-served _ _ (search needs) (search needs) _ _ _ (search needs) (search needs)))))

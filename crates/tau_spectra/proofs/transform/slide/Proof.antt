@@ -1,5 +1,5 @@
 use Rattle.tau_spectra.specs.Windows.{slid}
-use mathlib.Core.Path.{_≡_, _∙_}
+use mathlib.Core.Path.{_≡_}
 use Prim.Native.Nat.{_-_, _+_, _≤_}
 use native.Mathlib.Omega.{arith}
 use lib.Ieee.{nan}
@@ -46,4 +46,5 @@ slide-spec =
     (λ c. search (needs, loops))
     (λ c. search (needs, loops))
     (λ c. search (needs, loops))
-    (λ c. let i256 : c .before .before .before .loop .i ≡ 256 = omega arith in let j256 : c .before .loop2 .j ≡ 256 = omega arith in rw (c .before .loop2 .inv .2, c .before .before .before .loop .inv .2, i256, j256) (slide-law nan 256 (c .before .before .before .before .args .w .now) (c .before .before .before .before .args .b .now) (search needs) (search needs))))
+    (λ c. let at-args = c .before .before .before .before in
+    let i256 : c .before .before .before .loop .i ≡ 256 = omega arith in let j256 : c .before .loop2 .j ≡ 256 = omega arith in rw (c .before .loop2 .inv .2, c .before .before .before .loop .inv .2, i256, j256) (slide-law nan 256 (at-args .args .w .now) (at-args .args .b .now) (search needs) (search needs))))

@@ -1,7 +1,7 @@
 use Rattle.tau_suppressor.specs.Suppressor.{powered}
 use Rattle.tau_spectra.specs.Bins.{powerAt}
-use mathlib.Core.Path.{_≡_, _∙_}
-use Prim.Native.Nat.{_-_, _+_, _≤_}
+use mathlib.Core.Path.{_≡_}
+use Prim.Native.Nat.{_-_, _≤_}
 use Rattle.tau_state.specs.Constants.{f0·7, smoothBy}
 use Rattle.laws.specs.Loops.{loops, over, over-turn}
 use borrow.Author.Needs.{needs}

@@ -1,6 +1,6 @@
 use Rattle.tau_suppressor.specs.Suppressor.{gained, gainOf, targetOf}
-use mathlib.Core.Path.{_≡_, _∙_}
-use Prim.Native.Nat.{_-_, _+_, _≤_}
+use mathlib.Core.Path.{_≡_}
+use Prim.Native.Nat.{_-_, _≤_}
 use lib.Ieee.{nan}
 use lib.ListN.{getD}
 use Rattle.laws.specs.Loops.{loops, over, over-turn}

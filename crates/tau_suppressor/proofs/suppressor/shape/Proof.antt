@@ -1,6 +1,6 @@
 use Rattle.tau_suppressor.specs.Suppressor.{averageOf, averaged, shaped}
-use mathlib.Core.Path.{_≡_, _∙_}
-use Prim.Native.Nat.{_-_, _+_, _≤_}
+use mathlib.Core.Path.{_≡_}
+use Prim.Native.Nat.{_-_, _≤_}
 use native.Mathlib.Omega.{arith}
 use lib.Ieee.{nan}
 use lib.ListN.{getD, length}
@@ -29,6 +29,12 @@ shape-spec =
     (λ c κs. search needs)
     (λ c. search needs)
     (λ c. search needs)
-    (λ c. (search needs, search needs, over2-next nan _ _ _ _ (c .before .before .before .before .before .before .before .before .before .loop .inv .2) (rw (c .before .before .put .ensures, c .before .before .before .before .scale .ensures, c .before .before .before .before .before .average .ensures, c .before .before .before .before .before .before .get .ensures, table-at 257 (averageOf (c .before .before .before .before .before .before .before .before .before .before .before .args .g .now)) (c .before .before .before .before .before .before .before .before .before .loop .k) nan (c .before .before .before .before .before .before .before .before .loop-test .taken)))))
+    (λ c. let at-scale = c .before .before .before .before in
+    let at-average = at-scale .before in
+    let at-get = at-average .before in
+    let at-loop-test = at-get .before .before in
+    let at-loop = at-loop-test .before in
+    let at-args = at-loop .before .before in
+    (search needs, search needs, over2-next nan _ _ _ _ (at-loop .loop .inv .2) (rw (c .before .before .put .ensures, at-scale .scale .ensures, at-average .average .ensures, at-get .get .ensures, table-at 257 (averageOf (at-args .args .g .now)) (at-loop .loop .k) nan (at-loop-test .loop-test .taken)))))
     (λ c. search needs)
     (λ c. over2-end nan _ _ _ _ _ (c .before .loop .inv .2) (omega arith) (omega arith)))

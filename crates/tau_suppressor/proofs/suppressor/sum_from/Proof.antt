@@ -1,6 +1,6 @@
 use Rattle.tau_suppressor.specs.Suppressor.{sumFrom}
 use mathlib.Core.Path.{_≡_}
-use Prim.Native.Nat.{_-_, _+_, _≤_}
+use Prim.Native.Nat.{_-_, _≤_}
 use Rattle.laws.specs.Loops.{loops}
 use Rattle.tau_suppressor.proofs.suppressor.sum_from.Statement.{statement}
 use Rattle.tau_suppressor.proofs.suppressor.sum_from.Tie as tie

@@ -18,5 +18,12 @@ suppress-spec =
     (λ c. search needs)
     (λ c κs. search needs)
     (λ c κs. search needs)
-    (λ c. pick-yes _ _ _ (c .before .before .before .before .before .before .before .before .before .before .before .before .before .before .before .before .before .before .before .before .before .before .before .if1 .taken) (rw (c .later-half .ensures, c .before .before .before .before .before .shape .ensures, c .before .before .before .before .before .before .before .before .gains .ensures, c .before .before .before .before .before .before .before .before .before .before .before .before .bin-powers2 .ensures, c .before .before .before .before .before .before .before .before .before .before .before .before .before .before .before .bin-powers .ensures, c .before .before .before .before .before .before .before .before .before .before .before .before .before .before .before .before .before .before .spectrum .ensures, c .before .before .before .before .before .before .before .before .before .before .before .before .before .before .before .before .before .before .before .before .before .before .before .before .slide .ensures)))
+    (λ c. let at-shape = c .before .before .before .before .before in
+    let at-gains = at-shape .before .before .before in
+    let at-bin-powers2 = at-gains .before .before .before .before in
+    let at-bin-powers = at-bin-powers2 .before .before .before in
+    let at-spectrum = at-bin-powers .before .before .before in
+    let at-if1 = at-spectrum .before .before .before .before .before in
+    let at-slide = at-if1 .before in
+    pick-yes _ _ _ (at-if1 .if1 .taken) (rw (c .later-half .ensures, at-shape .shape .ensures, at-gains .gains .ensures, at-bin-powers2 .bin-powers2 .ensures, at-bin-powers .bin-powers .ensures, at-spectrum .spectrum .ensures, at-slide .slide .ensures)))
     (λ c. pick-no _ _ _ (c .if1 .left) (rw (c .before .slide .ensures))))

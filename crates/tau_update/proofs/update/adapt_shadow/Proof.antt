@@ -15,5 +15,9 @@ adapt-shadow-spec =
     (λ c κs. search needs)
     (λ c κs. search needs)
     (λ c. search needs)
-    (λ c. pick-yes _ _ _ (c .before .before .before .before .before .before .before .before .before .before .before .before .before .before .before .before .before .before .if1 .taken) (rw (← c .before .before .before .before .before .before .before .before .before .before .before .before .before .before .before .error-spectrum .ensures, ← c .before .before .before .before .before .before .before .before .before .before .before .before .next-steps .ensures .0, ← c .before .before .before .before .before .before .before .before .before .before .before .before .next-steps .ensures .1, ← c .before .before .before .before .before .before .before .learn .ensures, c .before .before .judge .ensures)))
+    (λ c. let at-learn = c .before .before .before .before .before .before .before in
+    let at-next-steps = at-learn .before .before .before .before .before in
+    let at-error-spectrum = at-next-steps .before .before .before in
+    let at-if1 = at-error-spectrum .before .before .before in
+    pick-yes _ _ _ (at-if1 .if1 .taken) (rw (← at-error-spectrum .error-spectrum .ensures, ← at-next-steps .next-steps .ensures .0, ← at-next-steps .next-steps .ensures .1, ← at-learn .learn .ensures, c .before .before .judge .ensures)))
     (λ c. pick-no _ _ _ (c .if1 .left) refl))

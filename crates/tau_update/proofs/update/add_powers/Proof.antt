@@ -1,6 +1,6 @@
 use Rattle.tau_spectra.specs.Bins.{powerAt}
 use mathlib.Core.Path.{_≡_}
-use Prim.Native.Nat.{_-_, _+_, _≤_}
+use Prim.Native.Nat.{_-_, _≤_}
 use lib.Ieee.{binary64, add}
 use Rattle.laws.specs.Loops.{loops, over, over-turn}
 use Rattle.tau_update.proofs.update.add_powers.Statement.{statement}

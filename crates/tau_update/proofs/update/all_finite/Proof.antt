@@ -1,6 +1,6 @@
 use Rattle.tau_update.specs.Update.{finiteTo}
 use mathlib.Core.Path.{_≡_}
-use Prim.Native.Nat.{_-_, _+_, _≤_}
+use Prim.Native.Nat.{_-_, _≤_}
 use Rattle.laws.specs.Loops.{loops, iter-more}
 use Rattle.tau_update.proofs.update.all_finite.Statement.{statement}
 use Rattle.tau_update.proofs.update.all_finite.Tie as tie

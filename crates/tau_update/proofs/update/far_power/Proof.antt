@@ -28,5 +28,7 @@ far-power-spec =
     (λ c κs. search needs)
     (λ c. search needs)
     (λ c. search needs)
-    (λ c. (search needs, let p = c .before .before .before .before .loop .p in iter-next _ _ _ (c .before .before .before .before .loop .inv .1) (rw (c .add-powers .ensures, part-is 514 (514 * p) p (c .before .before .before .before .before .before .before .args .xs .now) refl))))
+    (λ c. let at-loop = c .before .before .before .before in
+    let at-args = at-loop .before .before .before in
+    (search needs, let p = at-loop .loop .p in iter-next _ _ _ (at-loop .loop .inv .1) (rw (c .add-powers .ensures, part-is 514 (514 * p) p (at-args .args .xs .now) refl))))
     (λ c. search (needs, loops)))

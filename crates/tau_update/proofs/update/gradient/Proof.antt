@@ -1,6 +1,6 @@
 use Rattle.tau_update.specs.Update.{gradientAt, gradientOf}
 use mathlib.Core.Path.{_≡_, _∙_}
-use Prim.Native.Nat.{_-_, _+_, _≤_}
+use Prim.Native.Nat.{_-_, _≤_}
 use native.Mathlib.Omega.{arith}
 use lib.Ieee.{nan}
 use lib.ListN.{length}
@@ -31,6 +31,10 @@ gradient-spec =
     (λ c κs. search needs)
     (λ c. search needs)
     (λ c. search needs)
-    (λ c. (search needs, search needs, over2-next nan _ _ _ _ (c .before .before .before .before .before .before .before .before .before .before .before .before .before .before .before .before .before .before .before .loop .inv .2) (rw (c .before .before .put .ensures, c .before .before .before .scale .ensures, c .before .before .before .before .before .before .new .ensures, c .before .before .before .before .before .before .before .before .before .before .before .before .before .before .before .get2 .ensures, c .before .before .before .before .before .before .before .before .before .before .before .before .before .before .before .before .before .get .ensures))))
+    (λ c. let at-new = c .before .before .before .before .before .before in
+    let at-get2 = at-new .before .before .before .before .before .before .before .before .before in
+    let at-get = at-get2 .before .before in
+    let at-loop = at-get .before .before in
+    (search needs, search needs, over2-next nan _ _ _ _ (at-loop .loop .inv .2) (rw (c .before .before .put .ensures, c .before .before .before .scale .ensures, at-new .new .ensures, at-get2 .get2 .ensures, at-get .get .ensures))))
     (λ c. search needs)
     (λ c. let n : c .before .loop .k ≡ 257 = omega arith in rw n at (c .before .loop .inv .2) ∙ over2-table nan 257 _ _ _ (search needs)))

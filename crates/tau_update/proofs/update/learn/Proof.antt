@@ -45,6 +45,10 @@ learn-spec =
     (λ c κs. search needs)
     (λ c. search needs)
     (λ c. search needs)
-    (λ c. (search needs, search needs, ap length (c .before .before .before .before .before .before .constrain .ensures .0) ∙ length-constrained _, omega (arith, c .before .before .before .before .before .before .constrain .kept, c .before .before .before .before .before .before .before .before .before .before .before .before .before .before .before .before .loop .inv .3), c .before .before .before .before .before .before .constrain .ensures .1, iter-next _ _ _ (c .before .before .before .before .before .before .before .before .before .before .before .before .before .before .before .before .loop .inv .5) (learnt-turn _ _ _ _ _ _ _ _ (c .before .before .before .before .before .before .before .before .before .before .before .before .before .before .slot-of .ensures .0) (part-is 514 _ _ _ refl) (c .before .before .before .before .before .before .before .before .before .before .before .gradient .ensures) (c .before .before .before .before .before .before .constrain .ensures .0) (part-is 514 _ _ _ refl) (c .before .before .take-step .ensures .0) (c .before .before .take-step .ensures .1) (with-is 514 _ _ _ _ refl))))
+    (λ c. let at-constrain = c .before .before .before .before .before .before in
+    let at-gradient = at-constrain .before .before .before .before .before in
+    let at-slot-of = at-gradient .before .before .before in
+    let at-loop = at-slot-of .before .before in
+    (search needs, search needs, ap length (at-constrain .constrain .ensures .0) ∙ length-constrained _, omega (arith, at-constrain .constrain .kept, at-loop .loop .inv .3), at-constrain .constrain .ensures .1, iter-next _ _ _ (at-loop .loop .inv .5) (learnt-turn _ _ _ _ _ _ _ _ (at-slot-of .slot-of .ensures .0) (part-is 514 _ _ _ refl) (at-gradient .gradient .ensures) (at-constrain .constrain .ensures .0) (part-is 514 _ _ _ refl) (c .before .before .take-step .ensures .0) (c .before .before .take-step .ensures .1) (with-is 514 _ _ _ _ refl))))
     (λ c. search needs)
     (λ c. iter-end _ _ _ _ (c .before .loop .inv .5) (omega arith) (omega arith)))

@@ -1,6 +1,6 @@
 use Rattle.tau_update.specs.Update.{meansOf}
-use mathlib.Core.Path.{_≡_, _∙_}
-use Prim.Native.Nat.{_-_, _+_, _≤_}
+use mathlib.Core.Path.{_≡_}
+use Prim.Native.Nat.{_-_, _≤_}
 use lib.Ieee.{nan}
 use lib.ListN.{getD}
 use Rattle.tau_state.specs.Constants.{f0·98, smoothBy}

@@ -1,9 +1,9 @@
 use Rattle.tau_update.specs.Update.{stepped}
 use mathlib.Core.Path.{_≡_}
-use Prim.Native.Nat.{_-_, _+_, _≤_}
+use Prim.Native.Nat.{_-_, _≤_}
 use native.Mathlib.Omega.{arith}
 use lib.Ieee.{nan}
-use lib.ListN.{length, getD, length-set}
+use lib.ListN.{length, getD}
 use lib.Ieee.{binary64, add}
 use Rattle.laws.specs.Loops.{loops, over}
 use Rattle.tau_update.proofs.update.take_step.Statement.{statement}

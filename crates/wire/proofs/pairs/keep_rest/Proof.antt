@@ -1,12 +1,12 @@
 -- `wire::keep_rest` meets its contract: a byte is read before its place is written. Assumes nothing.
-use mathlib.Core.Path.{_≡_, sym, ap, _∙_}
+use mathlib.Core.Path.{_≡_, ap, _∙_}
 use mathlib.Core.List.{List}
 use Prim.Native.Nat.{ℕ, _+_, _-_, _*_, _/_, _%_, _≤_}
 use native.Mathlib.Omega.{arith}
 use borrow.Author.Needs.{needs}
 use lib.ListN.{length, getD, set, length-set}
-use Rattle.laws.specs.Choice.{choices, pick-yes, pick-no}
-use Rattle.laws.specs.Loops.{loops, over, over-none, over-next, over-ahead, over-end}
+use Rattle.laws.specs.Choice.{choices, pick-yes}
+use Rattle.laws.specs.Loops.{loops, over, over-next, over-ahead, over-end}
 use Rattle.wire.proofs.pairs.keep_rest.Statement.{statement}
 use Rattle.wire.proofs.pairs.keep_rest.Tie as tie
 

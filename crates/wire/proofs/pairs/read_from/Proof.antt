@@ -1,10 +1,10 @@
 -- `wire::read_from` meets its contract: after k turns the first k places hold their samples. Assumes nothing.
-use mathlib.Core.Path.{_≡_, ap, _∙_}
-use Prim.Native.Nat.{ℕ, _+_, _-_, _*_, _/_, _≤_, min}
+use mathlib.Core.Path.{_≡_}
+use Prim.Native.Nat.{ℕ, _+_, _-_, _*_, _≤_}
 use native.Mathlib.Omega.{arith}
 use borrow.Author.Needs.{needs}
 use lib.ListN.{length, length-set}
-use Rattle.laws.specs.Loops.{loops, over, over-turn, over-end}
+use Rattle.laws.specs.Loops.{loops, over, over-turn}
 use Rattle.wire.specs.Wire.{sampleAt}
 use Rattle.laws.specs.Readings.{over-clip}
 use Rattle.wire.proofs.pairs.read_from.Statement.{statement}

@@ -1,6 +1,6 @@
 -- `wire::place` meets its contract: each way out is what the tests of `placeOf` pick. Assumes nothing.
 use borrow.Author.Needs.{needs}
-use Rattle.laws.specs.Choice.{choices, pick-no}
+use Rattle.laws.specs.Choice.{choices}
 use Rattle.wire.specs.Wire.{placeOf}
 use Rattle.wire.proofs.samples.place.Statement.{statement}
 use Rattle.wire.proofs.samples.place.Tie as tie
