@@ -2,14 +2,11 @@
 use Prim.Native.Nat.{ℕ, _+_, _*_}
 use mathlib.Core.List.{List}
 use lib.ListN.{getD, set}
-use lib.Ieee.{Float, nan, binary64, add, sub, mul, neg, ofBits}
+use lib.Ieee.{Float, nan, binary64, add, sub, mul, neg}
 use Rattle.complex.specs.declared.Complex.{Complex}
 
 abbrev pub newC : Float → Float → Complex
 newC x y = record { re = x; im = y }
-
-abbrev pub zeroC : Complex
-zeroC = newC (ofBits binary64 0) (ofBits binary64 0)
 
 abbrev pub conjC : Complex → Complex
 conjC z = newC (z .re) (neg (z .im))

@@ -1,21 +1,17 @@
 -- A branch. `pick` is an if-then-else that stays shut, so that antt finds its test and its arms in a goal by itself.
 -- Assumes nothing.
 --     pick b x y          x where the test b holds, else y
---     pick-yes, pick-no   which arm it is, by the test: `pick-yes _ _ _ (cc) (cc)`; pick-not-yes, pick-not-no of a test `!b`
+--     pick-yes, pick-no   which arm it is, by the test: `pick-yes _ _ _ (cc) (cc)`
 --     pick-if             what both arms have, the pick has, and the test is known in each
 --     both                two tests that hold together hold each
 --     lt-or-ge            of two numbers the first is less, or the second is no more
 --     choices             what a tree of early returns wants: `search (needs, choices)`
-use mathlib.Core.Path.{_≡_, refl, sym, ap, _∙_}
+use mathlib.Core.Path.{_≡_, refl, sym}
 use mathlib.Core.Bool.{Bool, true, false, not, _&&_, true≢false}
 use mathlib.Core.Logic.{_⊎_, inl, inr}
 use Prim.Native.Nat.{ℕ, _≤_, _<_}
 use lib.Dec.{T, ltb, ltb→lt, nltb→le}
 use borrow.Author.Tests.{lt-ltb, le-ltb, le-leb, lt-leb, eq-eqb, ne-eqb}
-
-not-not : (b : Bool) → not (not b) ≡ b
-not-not true = refl
-not-not false = refl
 
 unfoldable pub pick : {A : Type 0} → Bool → A → A → A
 pick true x y = x
@@ -29,13 +25,6 @@ module _ {A : Type 0} (b : Bool) (x y : A) {z : A} where
   pub pick-no : b ≡ false → z ≡ y → z ≡ pick b x y
   unfolding pick
   pick-no e h = rw e h
-
-  -- of a test `!b`
-  pub pick-not-yes : not b ≡ true → z ≡ y → z ≡ pick b x y
-  pick-not-yes e h = pick-no (sym (not-not b) ∙ ap not e) h
-
-  pub pick-not-no : not b ≡ false → z ≡ x → z ≡ pick b x y
-  pick-not-no e h = pick-yes (sym (not-not b) ∙ ap not e) h
 
 pub pick-if : {A : Type 0} (Q : A → Type 0) (b : Bool) {x y : A} → (b ≡ true → Q x) → (b ≡ false → Q y) → Q (pick b x y)
 unfolding pick

@@ -7,7 +7,7 @@ use native.Mathlib.Nat.{not-suc-le-zero, le-of-suc-le-suc, le-refl}
 use native.Mathlib.Omega.{arith}
 use lib.Dec.{T}
 use lib.ListN.{length, getD, set, take, drop, replicate}
-use Rattle.laws.specs.Loops.{iter, over, overAt, over2}
+use Rattle.laws.specs.Loops.{iter, over, over2}
 use Rattle.laws.specs.Parts.{part, withPart}
 use Rattle.laws.specs.Tables.{table, table2, and-l, and-r}
 
@@ -75,21 +75,6 @@ module _ {A : Type 0} (P : A → Type 0) where
   through (suc n) f [] h s = tt
   through (suc n) f (x ∷ d) h s = (s 0 x (omega arith) (h .0), through n (λ k. f (suc k)) d (h .1) (λ k y l. s (suc k) y (omega arith)))
 
-  through-at : (b n : ℕ) (f : ℕ → A → A) (d : List A) → Each P d → ((k : ℕ) (x : A) → k < n → P x → P (f k x)) → Each P (overAt b n f d)
-  unfolding overAt
-  through-at zero n f d h s = through n f d h s
-  through-at (suc b) n f [] h s = tt
-  through-at (suc b) n f (x ∷ d) h s = (h .0, through-at b n f d (h .1) s)
-
-  through2 : (z : A) (n : ℕ) (f g : ℕ → A → A → A) (d : List A) → P z → Each P d → ((k : ℕ) (x y : A) → k < n → P x → P y → P (f k x y) × P (g k x y)) → Each P (over2 z n f g d)
-  unfolding over2
-  through2 z zero f g d q h s = h
-  through2 z (suc n) f g [] q h s = tt
-  through2 z (suc n) f g (x ∷ []) q h s = (s 0 x z (omega arith) (h .0) q .0, tt)
-  through2 z (suc n) f g (x ∷ y ∷ d) q h s =
-      let p = s 0 x y (omega arith) (h .0) (h .1 .0) in
-      (p .0, (p .1, through2 z n (λ k. f (suc k)) (λ k. g (suc k)) d q (h .1 .1) (λ k x' y' l. s (suc k) x' y' (omega arith))))
-
 module _ {A : Type 0} {P : A → Type 0} where
   pub all-none : All P []
   all-none = record { each = tt }
@@ -131,13 +116,6 @@ module _ {A : Type 0} {P : A → Type 0} where
   -- ---- loops
   pub all-over : (n : ℕ) (f : ℕ → A → A) {d : List A} → All P d → ((k : ℕ) (x : A) → k < n → P x → P (f k x)) → All P (over n f d)
   all-over n f {d} h s = record { each = through P n f d (h .each) s }
-
-  pub all-overAt : (b n : ℕ) (f : ℕ → A → A) {d : List A} → All P d → ((k : ℕ) (x : A) → k < n → P x → P (f k x)) → All P (overAt b n f d)
-  all-overAt b n f {d} h s = record { each = through-at P b n f d (h .each) s }
-
-  -- pairs, of a list of even length
-  pub all-over2 : (z : A) (n : ℕ) (f g : ℕ → A → A → A) {d : List A} → P z → All P d → ((k : ℕ) (x y : A) → k < n → P x → P y → P (f k x y) × P (g k x y)) → All P (over2 z n f g d)
-  all-over2 z n f g {d} q h s = record { each = through2 P z n f g d q (h .each) s }
 
 -- the turns of a loop keep what each turn keeps
 pub iter-keeps : {A : Type 0} (Q : A → Type 0) (step : ℕ → A → A) (a : A) (n : ℕ) → Q a → ((k : ℕ) (x : A) → k < n → Q x → Q (step k x)) → Q (iter step a n)

@@ -2,14 +2,14 @@
 --     part n p w           part p of w, its n numbers from n * p on
 --     withPart n p w v     w with v in the place of part p
 -- `part-is` and `with-is` join them to what code's `&w[a..a + n]` and `&mut w[a..a + n]` are, for a ≡ n * p.
-use mathlib.Core.Path.{_≡_, refl, ap, _∙_}
-use mathlib.Core.List.{List, _++_}
+use mathlib.Core.Path.{_≡_, refl}
+use mathlib.Core.List.{List}
 use Prim.Native.Nat.{ℕ, _+_, _-_, _*_, _≤_}
 use native.Mathlib.Nat.{add-sub-cancel-left}
 use native.Mathlib.Omega.{arith}
-use borrow.Rule.Slice.PartMut.{putMid, put-same}
+use borrow.Rule.Slice.PartMut.{putMid}
 use lib.ListN.{length, take, drop, length-drop, length-append}
-use lib.Seq.{length-take-le, take-at, drop-at}
+use lib.Seq.{length-take-le}
 
 module _ {A : Type 0} where
   unfoldable pub part : ℕ → ℕ → List A → List A
@@ -41,15 +41,3 @@ module _ {A : Type 0} where
       let b : length (drop (n * p) w) ≡ length w - n * p = length-drop (n * p) w in
       let c : length (drop n (drop (n * p) w)) ≡ length (drop (n * p) w) - n = length-drop n (drop (n * p) w) in
       simp (length-append) (omega arith)
-
-  -- what was put there is what is read there
-  pub part-with : (n p : ℕ) (w v : List A) → n * p ≤ length w → length v ≡ n → part n p (withPart n p w v) ≡ v
-  unfolding part withPart
-  part-with n p w v h e =
-      let a : length (take (n * p) w) ≡ n * p = length-take-le (n * p) w h in
-      ap (take n) (drop-at (take (n * p) w) (v ++ drop n (drop (n * p) w)) (n * p) a) ∙ take-at v (drop n (drop (n * p) w)) n e
-
-  -- a part put back as it was
-  pub with-part : (n p : ℕ) (w : List A) → withPart n p w (part n p w) ≡ w
-  unfolding part withPart
-  with-part n p w = put-same (n * p) n w

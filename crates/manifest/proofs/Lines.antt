@@ -67,10 +67,6 @@ module _ (text : List ℕ) (at : ℕ) where
   unfolding lineFrom upTo
   line-past h = rw (drop-of-length-le text h)
 
-  pub line-within : at ≤ length text → at + length (lineFrom text at) ≤ length text
-  unfolding lineFrom
-  line-within h = let r = upTo-within (drop at text) in let q = length-drop at text in omega arith
-
   -- the bytes from the line's start to its end
   pub line-bytes : (end : ℕ) → end ≡ at + length (lineFrom text at) → take (end - at) (drop at text) ≡ lineFrom text at
   unfolding lineFrom

@@ -1,9 +1,9 @@
 -- The order of numbers, and what minimum, maximum and clamp are bounded by. Assumes nothing.
 --     total          of two that are no NaN, where the one is not below the other, the other is at most the one
 --     same-of-le     two positive values of a format that are at most each other are the same
---     min-left, min-right, max-left, max-right, clamp-low, clamp-high    the bounds
+--     min-right, max-right, clamp-low, clamp-high    the bounds
 --     clamp-nan      a clamped NaN stays
-use mathlib.Core.Path.{_≡_, refl, sym, _∙_, subst}
+use mathlib.Core.Path.{_≡_, refl, sym, subst}
 use mathlib.Core.Logic.{_⊎_, inl, inr}
 use Prim.Native.Nat.{ℕ, _+_, _*_, _≤_, _<_}
 use native.Mathlib.Nat.{le-antisymm, eq-or-lt-of-le}
@@ -111,17 +111,6 @@ module _ (x y : Float) (Y : T (not (isNan y))) where
   unfolding maxOf
   max-right = pick-if (λ r. T (le y r)) (isNan x) (λ _. le-self y Y)
       (λ n. pick-if (λ r. T (le y r)) (lt x y) (λ _. le-self y Y) (λ l. total x y (subst (λ (b : Bool). T (not b)) (sym n) tt) Y l))
-
-module _ (x y : Float) (X : isNan x ≡ false) where
-  pub min-left : T (le (minOf x y) x)
-  unfolding minOf
-  min-left = pick-if (λ r. T (le r x)) (isNan x) (λ n. absurd (true≢false (sym n ∙ X)))
-      (λ n. pick-if (λ r. T (le r x)) (lt y x) (lt-le y x) (λ _. le-self x (subst (λ (b : Bool). T (not b)) (sym X) tt)))
-
-  pub max-left : T (le x (maxOf x y))
-  unfolding maxOf
-  max-left = pick-if (λ r. T (le x r)) (isNan x) (λ n. absurd (true≢false (sym n ∙ X)))
-      (λ n. pick-if (λ r. T (le x r)) (lt x y) (lt-le x y) (λ _. le-self x (subst (λ (b : Bool). T (not b)) (sym X) tt)))
 
 module _ (x lo hi : Float) (X : T (not (isNan x))) (L : T (not (isNan lo))) (H : T (not (isNan hi))) (ordered : T (le lo hi)) where
   pub clamp-low : T (le lo (clampOf x lo hi))

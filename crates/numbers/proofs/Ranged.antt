@@ -1,6 +1,5 @@
 -- Products and quotients of numbers between 0 and 1, and of powers. Assumes nothing.
 --     unit-mul, unit-div       a product of two, and a quotient x / y of an x up to y, are between 0 and 1 again
---     unit-scale               c times a number between 0 and 1 is at most c
 --     power-square, power-add, power-div     a square is a power, whatever was squared; sums, and quotients by what is above 0, are powers
 --     unit-min                 a power held to 1 is between 0 and 1, at a NaN too
 --     number-div               a finite number by one above 0 is no NaN
@@ -142,9 +141,6 @@ small-scale f (fin false (suc m) e) (fin false (suc n) d) p h u (some b) =
 small-scale f nan y p h u q = absurd p
 small-scale f (inf s) y p h u q = absurd p
 small-scale f (fin true m e) y p h u q = absurd p
-
-pub unit-scale : (f : Format) (c : Float) {y : Float} → T (positive c) → T (fits f c) → Unit y → T (le (mul f c y) c)
-unit-scale f c {y} p h u = small-scale f c y p h u (small y u)
 
 -- ---- quotients
 

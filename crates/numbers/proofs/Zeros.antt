@@ -153,9 +153,6 @@ zero-narrow {x = fin s zero e} h = nil-zero (narrowOf (fin s 0 e)) s (narrow-nil
 
 -- ---- zeros and NaNs: whatever a zero is multiplied by
 
-pub nan-faint : Faint nan
-nan-faint = record { faint = tt }
-
 pub faint-neg : {x : Float} → Faint x → Faint (neg x)
 unfolding neg
 faint-neg {x = nan} h = record { faint = tt }

@@ -42,11 +42,6 @@ pub quiet-counts : (e : Engine) (x y : Float) → loudAt e x y ≡ false → rem
 unfolding freezeOf
 quiet-counts e x y h = freeze-is e x y ∙ sym (pick-no _ _ _ h refl)
 
--- H itself stays.
-pub step-hangover : (e : Engine) (x y : Float) → hangover (takenBy e x y .engine) ≡ hangover e
-unfolding stepOf afterOf
-step-hangover e x y = refl
-
 -- ---- quiet pairs in a row
 
 -- N quiet pairs in a row take N off, as far as any is left.

@@ -64,16 +64,19 @@ listen flagged playing b microphone =
     let detector = judged (playing .active) energy near (shadow .estimate) (b .valid) (mic .detector) in
     -- Then, only if not flushing, not diverged in 3, far active and established, the two-path comparison."
     let compares = b .adapt && not (output .diverged) && playing .active && established (detector .«dtd_blocks») in
-    let comparison = compared compares (quiet detector) (shadow .error) (output .error) (b .valid) (output .paths) (mic .transfers) (output .shadow) (output .output) in
+    let comparison =
+    compared compares (quiet detector) (shadow .error) (output .error) (b .valid) (output .paths) (mic .transfers) (output .shadow) (output .output) in
     -- 6. "Update of the shadow, unless flushing, diverged in 2 or 3, or rescued."
     let updates = b .adapt && not (output .diverged) && not (shadow .diverged) && not (comparison .rescued) in
-    let update = updated updates (playing .ring) (shadow .error) (detector .«step_scale») (mic .«far_power_mean») (comparison .paths) (output .resets) (comparison .shadow) in
+    let update =
+    updated updates (playing .ring) (shadow .error) (detector .«step_scale») (mic .«far_power_mean») (comparison .paths) (output .resets) (comparison .shadow) in
     -- 7. "Slide the error window always. Suppressor only if flagged, `far_active` and not diverged in 3."
     let suppresses = flagged && playing .sounded && not (output .diverged) in
     let suppression = suppressed suppresses (detector .«protect_output») (output .error) (output .spectrum) (output .suppressor) in
     -- 8. "Guard: smoothed output power above 1.05 times smoothed near power (above 0) halves the output weights (`retire_output`), and the
     -- near block is delivered."
-    let guard = guarded near energy (b .valid) (mic .guard) (suppression .suppressor) (update .paths) (update .resets) (suppression .block) (comparison .output) in
+    let guard =
+    guarded near energy (b .valid) (mic .guard) (suppression .suppressor) (update .paths) (update .resets) (suppression .block) (comparison .output) in
     -- 9. "The two smoothed powers for the host."
     let powers = hosted near (guard .block) (b .valid) (mic .powers) in
     record {

@@ -53,7 +53,7 @@ use Rattle.tau_block_laws.proofs.Kept.{next-slot, learnt-lengths}
 -- ---- small things
 
 -- the two formats' 0.0 are +0.0
-zero32-is : zero32 ≡ plus
+pub zero32-is : zero32 ≡ plus
 unfolding ofBits
 zero32-is = refl
 

@@ -24,7 +24,7 @@ use lib.ListN.{length, getD, set, take, drop, replicate, length-set, length-appe
 use lib.Seq.{take-all, take-at, take-length, take-append-seam, take-suc-set, take-append-le, take-append-add, length-take-le}
 use Rattle.laws.specs.Choice.{pick, pick-if}
 use Rattle.laws.specs.Kinds.{All, Kept, all-none, all-cons, all-append, all-replicate}
-use Rattle.numbers.specs.Finite.{plus, isFinite, finiteOrZero}
+use Rattle.numbers.specs.Finite.{isFinite, finiteOrZero}
 use Rattle.numbers.specs.Zeros.{Zero, Finite, Fits, Still}
 use Rattle.numbers.proofs.Zeros.{plus-zero, zero-finite, zero-of-eq}
 use Rattle.numbers.proofs.Clean.{clean-finite, clean-fits}
@@ -34,7 +34,7 @@ use Rattle.tau_state.specs.declared.state.TauCanceller.{TauCanceller}
 use Rattle.tau_block.specs.Block.{Block}
 use Rattle.tau_block_laws.specs.Silence.{Near, Silent}
 use Rattle.tau_block_laws.proofs.Ran.{ran-handed}
-use Rattle.tau_block_laws.proofs.Silence.{cleared-silent, block-passed}
+use Rattle.tau_block_laws.proofs.Silence.{zero32-is, cleared-silent, block-passed}
 use Rattle.tau_fresh.specs.Fresh.{freshMic, freshOf}
 use Rattle.tau_frame.specs.Pairs.{Engine, Run, waitsOf, carrying, emptied, blockOf, fillOf, pairOf, pairsOf, padded, flushedOf, deliversOf}
 use Rattle.tau.specs.Calls.{begunOf, processOf, flushOf}
@@ -49,11 +49,6 @@ use Rattle.tau_streams.proofs.Counts.{block-delivers, delivers}
 use Rattle.tau_streams.proofs.Cut.{joined-first, cut, served-ran, call-ran}
 
 -- ---- small things
-
--- the padding is +0.0, a finite f32
-zero32-is : zero32 ≡ plus
-unfolding ofBits
-zero32-is = refl
 
 pad-zero : Zero zero32
 pad-zero = plus-zero (record { is = zero32-is })
