@@ -14,6 +14,6 @@ isFinite nan = false
 isFinite (inf s) = false
 isFinite (fin s m e) = true
 
--- "a call turns non-finite samples into 0.0"
+-- "A call turns non-finite samples into 0.0"
 unfoldable pub finiteOrZero : Float → Float
 finiteOrZero x = pick (isFinite x) x plus

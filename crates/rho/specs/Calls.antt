@@ -27,7 +27,7 @@ pub record Called : Type 0 where
   pub history : List Float
   pub out : List Float
 
--- "creation [gives] two lent f32 buffers .. both filled with +0.0", and the fresh state
+-- "Two lent f32 buffers .. both filled with +0.0", and the fresh state
 abbrev pub begunOf : ℕ → ℕ → ℕ → Begun
 begunOf taps hangover resets =
     record {

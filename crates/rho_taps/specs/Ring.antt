@@ -21,7 +21,7 @@ lagSlotOf pos n k = pick (leb k pos) (pos - k) (pos + n - k)
 abbrev pub lagOf : List Float → ℕ → ℕ → ℕ → Float
 lagOf history pos n k = getD history (lagSlotOf pos n k) nan
 
--- "One pass over the history in fixed lag order (newest to oldest)": the echo estimate, the window energy and the peak magnitude
+-- In the Rust's words "One pass over the history in fixed lag order (newest to oldest)": the echo estimate, the window energy and the peak magnitude
 unfoldable pub estimateOf : List Float → List Float → ℕ → ℕ → Float
 estimateOf weights history pos n = iter (λ k a. add binary64 a (mul binary64 (getD weights k nan) (lagOf history pos n k))) plus n
 

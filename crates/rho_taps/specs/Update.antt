@@ -37,8 +37,8 @@ pub record Adapted : Type 0 where
 unfoldable pub clearedOf : ℕ → ℕ → Adapted
 clearedOf n resets = record { weights = replicate n plus; resets = oneMore resets }
 
--- The update: after a divergence the filter is cleared; while frozen it stays; else it takes a step, and "all weights [are]
--- cleared where one is not finite".
+-- The update: after a divergence the filter is cleared; while frozen it stays; else it takes a step, and is cleared where a weight is then
+-- not finite.
 unfoldable pub adaptedOf : Bool → ℕ → Float → List Float → ℕ → ℕ → List Float → ℕ → Adapted
 adaptedOf fine freeze scale history pos n weights resets =
     let next = updatedOf scale history pos n weights in

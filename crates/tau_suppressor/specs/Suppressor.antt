@@ -44,7 +44,7 @@ spanOf k = pick (ltb k 253) (k + 5 - (k - 4)) (257 - (k - 4))
 unfoldable pub sumFrom : List Float → ℕ → ℕ → Float
 sumFrom gains lo n = iter (λ k total. add binary64 total (getD gains (lo + k) nan)) zero64 n
 
--- the average of the gains about bin k, "over its own count"
+-- the average of the gains about bin k, over as many as there are
 unfoldable pub averageOf : List Float → ℕ → Float
 averageOf gains k = div binary64 (sumFrom gains (k - 4) (spanOf k)) (ofInt binary64 (pos (spanOf k)))
 
