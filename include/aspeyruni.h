@@ -1,13 +1,24 @@
-/* The echo canceller whose samples are proved: what a C host calls. The functions are those of crates/capi, and docs/PROMISES.md says
- * what each promises. Link the library that `rt staticlib capi` writes.
+/* Aspeyruni, an acoustic echo canceller whose samples are proved: what a C host calls. The functions are those of crates/capi, and
+ * docs/PROMISES.md says what each promises. Link libaspeyruni, which `make` builds.
  *
  * A buffer is a pointer and how many numbers it has. A state is passed by value, and comes back in the answer; any state may be passed,
  * and a bad one is refused. For an answer that is a struct the caller gives the place, before all else.
  * Two states are the same where their fields are: the bytes between fields hold anything, so memcmp may not be asked.
  *
- * Refusals: 0 none, 1 a setting outside its range, 2 a lent buffer that has not exactly the needed length, 3 near and far of different
- * lengths, 4 more than 4,096 pairs in one call, 5 an output buffer shorter than the call would deliver, 6 a state with a number outside
- * its range. A refused call delivers nothing, gives back the state as it was, and writes nothing else. */
+ * What a caller has to see to, since no refusal tells of it:
+ * - Overlap. What a call writes, the answer's place too, may not overlap a buffer of that call. So there is no work in place: with
+ *   out == near_end Tau reads samples that it has just delivered. Frames of 160 pairs show it, frames of 256 happen not to.
+ * - A state goes only with its own lent buffers, as its last call left them. Others of the right length are taken for them.
+ * - A bool's byte is 0 or 1, also in a state that was read from a file.
+ * - Threads. An engine is its state and its lent buffers, and the library has no other memory. So calls of different engines may run at
+ *   once; two calls on one engine may not.
+ * - Stack. A call of Tau takes up to 65,100 bytes (measured on x86-64), of which 15 KB are the state that goes in; any other call takes up
+ *   to 13 KB. A thread needs 80 KB to spare for Tau, and 16 KB for the rest.
+ *
+ * Samples: `near_end` is what the microphone hears, `far_end` what the loudspeaker plays at the same time; the same places of both are a
+ * pair. A sample that is not finite is read as 0.0. Full scale is 1.0: in both engines a far end of an RMS below about 0.001 is learnt
+ * more slowly, and one below about 0.0001 hardly at all, since one constant is absolute. A larger scale is cancelled as well, 16-bit
+ * integers as floats too. */
 #ifndef ASPEYRUNI_H
 #define ASPEYRUNI_H
 
@@ -15,9 +26,30 @@
 #include <stddef.h>
 #include <stdint.h>
 
+/* Header and library have to be of one version, and nothing checks it: before 1.0.0 a new minor version may change a struct's layout. */
+#define ASPEYRUNI_VERSION "0.1.0"
+#define ASPEYRUNI_VERSION_MAJOR 0
+#define ASPEYRUNI_VERSION_MINOR 1
+#define ASPEYRUNI_VERSION_PATCH 0
+
+/* The most pairs of one call, of either engine. */
+#define ASPEYRUNI_MAX_PAIRS 4096
+
 #ifdef __cplusplus
 extern "C" {
 #endif
+
+/* The field `refusal` of every answer. A refused call delivers nothing, gives back the state as it was (a refused create: all zero), and
+ * writes nothing else. */
+enum aspeyruni_refusal {
+    ASPEYRUNI_ACCEPTED = 0,
+    ASPEYRUNI_REFUSED_SETTING = 1, /* create: a setting outside its range */
+    ASPEYRUNI_REFUSED_BUFFER = 2,  /* a lent buffer that has not exactly the needed length */
+    ASPEYRUNI_REFUSED_LENGTHS = 3, /* near and far of different lengths */
+    ASPEYRUNI_REFUSED_PAIRS = 4,   /* more than ASPEYRUNI_MAX_PAIRS in one call */
+    ASPEYRUNI_REFUSED_ROOM = 5,    /* an output buffer shorter than this call would deliver */
+    ASPEYRUNI_REFUSED_STATE = 6    /* a state with a number outside its range */
+};
 
 /* ---- numbers and the transform */
 
@@ -26,19 +58,37 @@ float aspeyruni_narrow(double x);
 /* The bits of that f32; for a NaN 7FC00000. */
 uint32_t aspeyruni_narrow_bits(double x);
 
-/* 512 samples to 514 numbers, 257 bins real part then imaginary, and back; 256 complex points in place, 512 numbers. 0, or refusal 2. */
+/* 512 samples to 514 numbers, 257 bins real part then imaginary, and back; 256 complex points in place, 512 numbers. They answer
+ * ASPEYRUNI_ACCEPTED or ASPEYRUNI_REFUSED_BUFFER. */
 uint32_t aspeyruni_forward(const float *samples, size_t samples_len, double *spectrum, size_t spectrum_len);
 uint32_t aspeyruni_inverse(const double *spectrum, size_t spectrum_len, float *samples, size_t samples_len);
 uint32_t aspeyruni_complex_forward(double *points, size_t points_len);
 uint32_t aspeyruni_complex_inverse(double *points, size_t points_len);
 
-/* ---- TauCanceller, the block engine: blocks of 256 pairs, P partitions from 1 to 32 */
+/* ---- TauCanceller, the block engine: it delivers 256 samples when 256 pairs are there
+ *
+ * It knows no sample rate. With P partitions it removes echo that comes 0 to 256 * P - 1 samples after its far sample: with 4 that is
+ * 64 ms at 16 kHz and 21 ms at 48 kHz. Later echo stays.
+ *
+ * The filter that it delivers through, the output filter, starts from zero and moves only in far-active blocks: those whose far energy is
+ * above 1e-4 of the loudest far block's since create or reset. The 69th of them is the first that can move it. So at least 69 blocks pass,
+ * 1.1 s at 16 kHz: bit for bit without suppression, and with it until the far end sounds. After that suppression takes them through a
+ * transform and back, which changed a sample by 1e-15 of the loudest in its block and the one before at most (measured).
+ *
+ * The loudest block is never forgotten. One far sample above 1,600 times the RMS of what follows, such as 10,000 where full scale is 1.0,
+ * leaves no later block far active: the output filter moves no more until a reset, and echo that it does not know by then stays. */
+#define ASPEYRUNI_BLOCK 256
+#define ASPEYRUNI_BINS 257
+#define ASPEYRUNI_TAU_MAX_PARTITIONS 32 /* and the fewest are 1 */
 
-/* Each of the three lent buffers has 514 * P numbers. */
-#define ASPEYRUNI_TAU_NUMBERS(partitions) (514 * (size_t)(partitions))
+/* How many numbers each of the three lent buffers has: for each partition its bins, real part then imaginary. */
+#define ASPEYRUNI_TAU_NUMBERS(partitions) (2 * ASPEYRUNI_BINS * (size_t)(partitions))
+
+/* The room for samples that always suffices for a call of so many pairs. A flush is a call of none. */
+#define ASPEYRUNI_TAU_ROOM(pairs) ((size_t)(pairs) + ASPEYRUNI_BLOCK - 1)
 
 struct aspeyruni_far {
-    float window[512];
+    float window[2 * ASPEYRUNI_BLOCK];
     size_t head;
     bool far_active;
     double far_energy_peak;
@@ -63,10 +113,10 @@ struct aspeyruni_paths {
 };
 
 struct aspeyruni_suppressor {
-    double echo_power[257];
-    double error_power[257];
-    double gain[257];
-    float error_window[512];
+    double echo_power[ASPEYRUNI_BINS];
+    double error_power[ASPEYRUNI_BINS];
+    double gain[ASPEYRUNI_BINS];
+    float error_window[2 * ASPEYRUNI_BLOCK];
 };
 
 struct aspeyruni_guard {
@@ -82,7 +132,7 @@ struct aspeyruni_powers {
 struct aspeyruni_mic {
     struct aspeyruni_detector detector;
     struct aspeyruni_paths paths;
-    double far_power_mean[257];
+    double far_power_mean[ASPEYRUNI_BINS];
     struct aspeyruni_suppressor suppressor;
     struct aspeyruni_guard guard;
     struct aspeyruni_powers powers;
@@ -94,9 +144,9 @@ struct aspeyruni_tau {
     size_t partitions;
     bool suppress;
     size_t carried;
-    float near_carry[256];
-    float far_carry[256];
-    struct aspeyruni_far far;
+    float near_carry[ASPEYRUNI_BLOCK];
+    float far_carry[ASPEYRUNI_BLOCK];
+    struct aspeyruni_far far_end; /* not `far`, which windows.h makes a macro, as it does `near` */
     struct aspeyruni_mic mic;
 };
 
@@ -105,7 +155,14 @@ struct aspeyruni_tau_started {
     struct aspeyruni_tau state;
 };
 
-/* The outcome is that of the last block: 0 none run, 1 no move, 2 a rescue, 3 a move, whose leak is above 0 and at most 0.75. */
+/* The field `outcome`: what the call's last block did. */
+enum aspeyruni_outcome {
+    ASPEYRUNI_OUTCOME_NOT_RUN = 0, /* the call ran no block */
+    ASPEYRUNI_OUTCOME_NO_MOVE = 1,
+    ASPEYRUNI_OUTCOME_RESCUE = 2, /* the shadow filter became a copy of the output filter */
+    ASPEYRUNI_OUTCOME_MOVE = 3    /* the output filter moved towards the shadow, by the share `leak`: above 0, at most 0.75 */
+};
+
 struct aspeyruni_tau_answer {
     uint32_t refusal;
     size_t delivered;
@@ -123,8 +180,8 @@ void aspeyruni_tau_create(struct aspeyruni_tau_started *answer, size_t partition
 /* Delivers 256 samples for each block that the pairs fill, to the first places of `out`. `answer` may be the one that the state is
  * from, as in aspeyruni_tau_process(&answer, answer.state, ..): the state is then copied into the call and nowhere else. */
 void aspeyruni_tau_process(struct aspeyruni_tau_answer *answer, struct aspeyruni_tau state, double *shadow, size_t shadow_len,
-                           double *output, size_t output_len, double *spectra, size_t spectra_len, const float *near, size_t near_len,
-                           const float *far, size_t far_len, float *out, size_t out_len);
+                           double *output, size_t output_len, double *spectra, size_t spectra_len, const float *near_end, size_t near_len,
+                           const float *far_end, size_t far_len, float *out, size_t out_len);
 
 /* Delivers what waits, at most 255 samples. */
 void aspeyruni_tau_flush(struct aspeyruni_tau_answer *answer, struct aspeyruni_tau state, double *shadow, size_t shadow_len,
@@ -134,7 +191,11 @@ void aspeyruni_tau_flush(struct aspeyruni_tau_answer *answer, struct aspeyruni_t
 void aspeyruni_tau_reset(struct aspeyruni_tau_started *answer, struct aspeyruni_tau state, double *shadow, size_t shadow_len,
                          double *output, size_t output_len, double *spectra, size_t spectra_len);
 
-/* ---- RhoCanceller, the time-domain engine: a sample out for each pair, at once */
+/* ---- RhoCanceller, the time-domain engine: a sample out for each pair, at once
+ *
+ * It learns in no pair where |near| is above half of the largest |far| among its taps, nor in the 15 ms after one: so echo has to be at
+ * most half as loud as the far end. */
+#define ASPEYRUNI_RHO_MAX_TAPS 8192
 
 struct aspeyruni_rho {
     size_t taps;
@@ -163,13 +224,14 @@ struct aspeyruni_rho_answer {
     struct aspeyruni_rho_report report;
 };
 
-/* Rate 8,000 to 48,000, tail 0 to 1,000 ms; both buffers have floor(tail * rate / 1000) numbers, at least 1 and at most 8,192. */
+/* Rate 8,000 to 48,000, tail 0 to 1,000 ms; taps, and the numbers of either buffer, are floor(tail * rate / 1000), at least 1 and at most
+ * ASPEYRUNI_RHO_MAX_TAPS. */
 void aspeyruni_rho_create(struct aspeyruni_rho_started *answer, uint32_t sample_rate, uint32_t tail_ms, float *weights,
                           size_t weights_len, float *history, size_t history_len);
 
 void aspeyruni_rho_process(struct aspeyruni_rho_answer *answer, struct aspeyruni_rho state, float *weights, size_t weights_len,
-                           float *history, size_t history_len, const float *near, size_t near_len, const float *far, size_t far_len,
-                           float *out, size_t out_len);
+                           float *history, size_t history_len, const float *near_end, size_t near_len, const float *far_end,
+                           size_t far_len, float *out, size_t out_len);
 
 void aspeyruni_rho_flush(struct aspeyruni_rho_answer *answer, struct aspeyruni_rho state, const float *weights, size_t weights_len,
                          const float *history, size_t history_len);

@@ -1,17 +1,54 @@
 //! The echo canceller whose samples are proved: what a Rust host calls, as include/aspeyruni.h is for C. A host has it as a module,
-//! `#[path = "../include/aspeyruni.rs"] mod aspeyruni;`, and links the library that `rt staticlib capi` writes. The functions are those
-//! of crates/capi, and docs/PROMISES.md says what each promises. It takes Rust 1.82 or later, in any edition from 2021 on.
+//! `#[path = "../include/aspeyruni.rs"] mod aspeyruni;`, and links libaspeyruni, which `make` builds. The functions are those of
+//! crates/capi, and docs/PROMISES.md says what each promises. It takes Rust 1.82 or later, in any edition from 2021 on.
 //!
 //! A buffer is a slice, which the library is passed as a pointer and a length. A state is passed by value, and comes back in the answer;
 //! any state may be passed, and a bad one is refused. For an answer that is a struct the library is given the place, before all else:
-//! x86-64 passes an answer of this size so, and the library, which is written for x86-64, does it on every processor (oracle/library).
+//! x86-64 passes an answer of this size so, and the library, which is written for x86-64, does it on every processor (bin/library).
 //! Two states are the same where their fields are: the bytes between fields hold anything, and may not be compared.
 //!
-//! Refusals: 0 none, 1 a setting outside its range, 2 a lent buffer that has not exactly the needed length, 3 near and far of different
-//! lengths, 4 more than 4,096 pairs in one call, 5 an output buffer shorter than the call would deliver, 6 a state with a number outside
-//! its range. A refused call delivers nothing, gives back the state as it was, and writes nothing else.
+//! What a caller has to see to, since neither the compiler nor a refusal tells of it:
+//! - A state goes only with its own lent buffers, as its last call left them. Others of the right length are taken for them, and a state is
+//!   `Copy`: an older copy is accepted with newer buffers.
+//! - Stack. For Tau a thread needs 96 KB to spare, and 160 KB in a build that is not optimised (80 and 140 were measured on x86-64, and
+//!   with `process_on` 62 and 77); for the other calls it needs 16 KB.
+//!
+//! An engine is its state and its lent buffers, and the library has no other memory: calls of different engines may run at once.
+//!
+//! Samples: `near` is what the microphone hears, `far` what the loudspeaker plays at the same time; the same places of both are a pair. A
+//! sample that is not finite is read as 0.0. Full scale is 1.0: in both engines a far end of an RMS below about 0.001 is learnt more
+//! slowly, and one below about 0.0001 hardly at all, since one constant is absolute. A larger scale is cancelled as well, 16-bit integers
+//! as floats too.
 
 #![allow(dead_code)] // a host uses a part
+
+/// This file and the library have to be of one version, and nothing checks it: before 1.0.0 a new minor version may change a struct's
+/// layout.
+pub const VERSION: &str = "0.1.0";
+pub const VERSION_MAJOR: u32 = 0;
+pub const VERSION_MINOR: u32 = 1;
+pub const VERSION_PATCH: u32 = 0;
+
+/// The most pairs of one call, of either engine.
+pub const MAX_PAIRS: usize = 4096;
+
+/// What the transforms answer, and the field `refusal` of every other answer. A refused call delivers nothing, gives back the state as it
+/// was (a refused create: all zero), and writes nothing else.
+pub mod refusal {
+    pub const ACCEPTED: u32 = 0;
+    /// Create: a setting outside its range.
+    pub const SETTING: u32 = 1;
+    /// A lent buffer that has not exactly the needed length.
+    pub const BUFFER: u32 = 2;
+    /// Near and far of different lengths.
+    pub const LENGTHS: u32 = 3;
+    /// More than `MAX_PAIRS` in one call.
+    pub const PAIRS: u32 = 4;
+    /// An output buffer shorter than this call would deliver.
+    pub const ROOM: u32 = 5;
+    /// A state with a number outside its range.
+    pub const STATE: u32 = 6;
+}
 
 /// What the library answers, in the place that it is given for it before all else. After that come the settings or the state, and then
 /// the buffers: those that are lent to it, those that it reads, and the one that it writes samples to.
@@ -57,7 +94,7 @@ pub fn narrow_bits(x: f64) -> u32 {
     unsafe { aspeyruni_narrow_bits(x) }
 }
 
-/// 512 samples to 514 numbers, 257 bins real part then imaginary. 0, or refusal 2, as with the three below.
+/// 512 samples to 514 numbers, 257 bins real part then imaginary. It answers `refusal::ACCEPTED` or `BUFFER`, as do the three below.
 pub fn forward(samples: &[f32], spectrum: &mut [f64]) -> u32 {
     let (to, to_len) = (spectrum.as_mut_ptr(), spectrum.len());
     unsafe { aspeyruni_forward(samples.as_ptr(), samples.len(), to, to_len) }
@@ -78,12 +115,41 @@ pub fn complex_inverse(points: &mut [f64]) -> u32 {
     unsafe { aspeyruni_complex_inverse(points.as_mut_ptr(), points.len()) }
 }
 
-/// TauCanceller, the block engine: blocks of 256 pairs, from 1 to 32 partitions.
+/// TauCanceller, the block engine: it delivers 256 samples when 256 pairs are there.
+///
+/// It knows no sample rate. With P partitions it removes echo that comes 0 to 256 * P - 1 samples after its far sample: with 4 that is
+/// 64 ms at 16 kHz and 21 ms at 48 kHz. Later echo stays.
+///
+/// The filter that it delivers through, the output filter, starts from zero and moves only in far-active blocks: those whose far energy is
+/// above 1e-4 of the loudest far block's since create or reset. The 69th of them is the first that can move it. So at least 69 blocks pass,
+/// 1.1 s at 16 kHz: bit for bit without suppression, and with it until the far end sounds. After that suppression takes them through a
+/// transform and back, which changed a sample by 1e-15 of the loudest in its block and the one before at most (measured).
+///
+/// The loudest block is never forgotten. One far sample above 1,600 times the RMS of what follows, such as 10,000 where full scale is 1.0,
+/// leaves no later block far active: the output filter moves no more until a reset, and echo that it does not know by then stays.
 pub mod tau {
     pub const BLOCK: usize = 256;
     pub const BINS: usize = 257;
     /// Of a partition in each lent buffer: its bins, real part then imaginary.
     pub const NUMBERS: usize = 2 * BINS;
+    /// And the fewest are 1.
+    pub const MAX_PARTITIONS: usize = 32;
+
+    /// The room for samples that always suffices for a call of so many pairs. A flush is a call of none.
+    pub const fn room(pairs: usize) -> usize {
+        pairs.saturating_add(BLOCK - 1)
+    }
+
+    /// The field `outcome`: what the call's last block did.
+    pub mod outcome {
+        /// The call ran no block.
+        pub const NOT_RUN: u32 = 0;
+        pub const NO_MOVE: u32 = 1;
+        /// The shadow filter became a copy of the output filter.
+        pub const RESCUE: u32 = 2;
+        /// The output filter moved towards the shadow, by the share `leak`: above 0, at most 0.75.
+        pub const MOVE: u32 = 3;
+    }
 
     /// The shadow weights, the output weights and the far spectra, each of `NUMBERS` for each partition.
     pub type Lent<'a> = [&'a mut [f64]; 3];
@@ -175,8 +241,7 @@ pub mod tau {
         pub state: TauCanceller,
     }
 
-    /// Of process and flush: what the call delivers and leaves, and then its report. The outcome is that of the last block: 0 none run,
-    /// 1 no move, 2 a rescue, 3 a move, whose leak is above 0 and at most 0.75.
+    /// Of process and flush: what the call delivers and leaves, and then its report.
     #[repr(C)]
     #[derive(Clone, Copy, Debug)]
     pub struct Answer {
@@ -297,7 +362,7 @@ pub mod tau {
                 transfers: state.mic.transfers,
                 divergence_resets: state.mic.divergence_resets,
                 double_talk: state.mic.detector.double_talk,
-                outcome: 0,
+                outcome: outcome::NOT_RUN,
                 leak: 0.0,
             }
         }
@@ -315,7 +380,12 @@ pub mod tau {
 }
 
 /// RhoCanceller, the time-domain engine: a sample out for each pair, at once.
+///
+/// It learns in no pair where |near| is above half of the largest |far| among its taps, nor in the 15 ms after one: so echo has to be at
+/// most half as loud as the far end.
 pub mod rho {
+    pub const MAX_TAPS: usize = 8192;
+
     #[repr(C)]
     #[derive(Clone, Copy, Debug, Default)]
     pub struct RhoCanceller {
@@ -395,7 +465,8 @@ pub mod rho {
         );
     }
 
-    /// Rate 8,000 to 48,000, tail 0 to 1,000 ms; both buffers have floor(tail * rate / 1000) numbers, at least 1 and at most 8,192.
+    /// Rate 8,000 to 48,000, tail 0 to 1,000 ms; taps, and the numbers of either buffer, are floor(tail * rate / 1000), at least 1 and at
+    /// most `MAX_TAPS`.
     pub fn create(
         sample_rate: u32,
         tail_ms: u32,
