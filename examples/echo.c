@@ -1,42 +1,64 @@
 /* Reads pairs from standard input, near then far, as f32s, runs TauCanceller with four partitions and suppression, and writes the samples
- * as f32s. On a little-endian machine it does what the program `aec` does. */
+ * as f32s. On a little-endian machine it does what the program `aec` does: an unfinished last pair is dropped, and after a failed read what
+ * was read is still delivered. Where a read, a write or a call fails it says so on standard error, and its status is 1. */
 #include "aspeyruni.h"
 #include <stdio.h>
 
-enum { PARTITIONS = 4, PAIRS = 1024, NUMBERS = 514 * PARTITIONS };
+enum { PARTITIONS = 4, PAIRS = 1024, NUMBERS = ASPEYRUNI_TAU_NUMBERS(PARTITIONS), ROOM = ASPEYRUNI_TAU_ROOM(PAIRS) };
 
 static double shadow[NUMBERS], output[NUMBERS], spectra[NUMBERS];
-static float pairs[2 * PAIRS], near_end[PAIRS], far_end[PAIRS], out[PAIRS + 255];
+static float pairs[2 * PAIRS], near_end[PAIRS], far_end[PAIRS], out[ROOM];
 
-static int give(const struct aspeyruni_tau_answer *answer)
+static bool is_accepted(uint32_t refusal)
 {
-    if (answer->refusal != 0) {
-        fprintf(stderr, "echo: refusal %u\n", (unsigned)answer->refusal);
-        return 1;
+    if (refusal != ASPEYRUNI_ACCEPTED)
+        fprintf(stderr, "echo: refusal %u\n", (unsigned)refusal);
+    return refusal == ASPEYRUNI_ACCEPTED;
+}
+
+static bool give(const struct aspeyruni_tau_answer *answer)
+{
+    if (!is_accepted(answer->refusal))
+        return false;
+    if (fwrite(out, sizeof *out, answer->delivered, stdout) != answer->delivered) {
+        perror("echo: a write failed");
+        return false;
     }
-    return fwrite(out, sizeof *out, answer->delivered, stdout) != answer->delivered;
+    return true;
 }
 
 int main(void)
 {
     static struct aspeyruni_tau_started started;
     static struct aspeyruni_tau_answer answer;
-    size_t read;
+    size_t count;
+    int status = 0;
 
     aspeyruni_tau_create(&started, PARTITIONS, true, shadow, NUMBERS, output, NUMBERS, spectra, NUMBERS);
-    if (started.refusal != 0)
+    if (!is_accepted(started.refusal))
         return 1;
     answer.state = started.state;
-    while ((read = fread(pairs, 2 * sizeof *pairs, PAIRS, stdin)) > 0) {
-        for (size_t i = 0; i < read; i++) {
+    do {
+        count = fread(pairs, 2 * sizeof *pairs, PAIRS, stdin);
+        if (ferror(stdin)) {
+            perror("echo: a read failed");
+            status = 1;
+        }
+        for (size_t i = 0; i < count; i++) {
             near_end[i] = pairs[2 * i];
             far_end[i] = pairs[2 * i + 1];
         }
-        aspeyruni_tau_process(&answer, answer.state, shadow, NUMBERS, output, NUMBERS, spectra, NUMBERS, near_end, read, far_end, read,
-                              out, sizeof out / sizeof *out);
-        if (give(&answer))
+        aspeyruni_tau_process(&answer, answer.state, shadow, NUMBERS, output, NUMBERS, spectra, NUMBERS, near_end, count, far_end, count,
+                              out, ROOM);
+        if (!give(&answer))
             return 1;
+    } while (count == PAIRS);
+    aspeyruni_tau_flush(&answer, answer.state, shadow, NUMBERS, output, NUMBERS, spectra, NUMBERS, out, ROOM);
+    if (!give(&answer))
+        return 1;
+    if (fclose(stdout) != 0) { /* what stdio still held is written here, and a full disk shows */
+        perror("echo: a write failed");
+        return 1;
     }
-    aspeyruni_tau_flush(&answer, answer.state, shadow, NUMBERS, output, NUMBERS, spectra, NUMBERS, out, sizeof out / sizeof *out);
-    return give(&answer);
+    return status;
 }

@@ -1,47 +1,72 @@
 //! What echo.c does, from a Rust host: pairs from standard input, near then far, as f32s, through TauCanceller with four partitions and
-//! suppression, and the samples to standard output as f32s.
+//! suppression, and the samples to standard output as f32s. Where something fails, a line on standard error says what, and the status
+//! is 1.
 
 #[path = "../include/aspeyruni.rs"]
 mod aspeyruni;
 
 use aspeyruni::tau::{self, Answer};
-use std::io::{Read, Write};
+use aspeyruni::{refusal, MAX_PAIRS};
+use std::io::{self, Read, Write};
+use std::process::ExitCode;
 
 const PARTITIONS: usize = 4;
 const NUMBERS: usize = tau::NUMBERS * PARTITIONS;
-const PAIRS: usize = 4096;
+const READ: usize = 8 * MAX_PAIRS;
 
-fn give(answer: &Answer, out: &[f32]) -> std::io::Result<()> {
-    assert_eq!(answer.refusal, 0, "refused");
-    let samples = out[..answer.delivered].iter();
-    let bytes: Vec<u8> = samples.flat_map(|x| x.to_le_bytes()).collect();
-    std::io::stdout().write_all(&bytes)
+fn accepted(number: u32) -> Result<(), String> {
+    match number {
+        refusal::ACCEPTED => Ok(()),
+        _ => Err(format!("refusal {number}")),
+    }
 }
 
-fn main() -> std::io::Result<()> {
-    let mut bytes = Vec::new();
-    std::io::stdin().read_to_end(&mut bytes)?;
-    let sample = |b: &[u8]| f32::from_le_bytes([b[0], b[1], b[2], b[3]]);
-    let (near, far): (Vec<f32>, Vec<f32>) = bytes
-        .chunks_exact(8)
-        .map(|pair| (sample(&pair[..4]), sample(&pair[4..])))
-        .unzip();
+fn give(answer: &Answer, out: &[f32], to: &mut impl Write) -> Result<(), String> {
+    accepted(answer.refusal)?;
+    let samples = out[..answer.delivered].iter();
+    let bytes: Vec<u8> = samples.flat_map(|x| x.to_le_bytes()).collect();
+    to.write_all(&bytes)
+        .map_err(|why| format!("a write failed: {why}"))
+}
 
+/// The whole pairs among the bytes; an unfinished last one is dropped.
+fn pairs_of(bytes: &[u8]) -> (Vec<f32>, Vec<f32>) {
+    let sample = |b: &[u8]| f32::from_le_bytes([b[0], b[1], b[2], b[3]]);
+    let pairs = bytes.chunks_exact(8);
+    pairs.map(|b| (sample(&b[..4]), sample(&b[4..]))).unzip()
+}
+
+fn run(mut from: impl Read, mut to: impl Write) -> Result<(), String> {
     let [shadow, output, spectra] = &mut [[0.0; NUMBERS]; 3];
-    let mut out = [0.0; PAIRS];
-    let started = tau::create(PARTITIONS, true, [shadow, output, spectra]);
-    assert_eq!(started.refusal, 0, "refused");
-    let mut state = started.state;
-    for (near, far) in near.chunks(PAIRS).zip(far.chunks(PAIRS)) {
-        let answer = tau::process(state, [shadow, output, spectra], near, far, &mut out);
-        give(&answer, &out)?;
-        state = answer.state;
+    let mut out = [0.0; tau::room(MAX_PAIRS)];
+    let mut answer: Answer = tau::create(PARTITIONS, true, [shadow, output, spectra]).into();
+    accepted(answer.refusal)?;
+    let end = loop {
+        let mut bytes = Vec::with_capacity(READ);
+        let read = from.by_ref().take(READ as u64).read_to_end(&mut bytes);
+        let (near, far) = pairs_of(&bytes); // after a failed read too: what was read is delivered
+        let lent = [&mut shadow[..], &mut output[..], &mut spectra[..]];
+        tau::process_on(&mut answer, lent, &near, &far, &mut out);
+        give(&answer, &out, &mut to)?;
+        match read {
+            Ok(READ) => {}
+            Ok(_) => break Ok(()),
+            Err(why) => break Err(format!("a read failed: {why}")),
+        }
+    };
+    let last = tau::flush(answer.state, [shadow, output, spectra], &mut out);
+    give(&last, &out, &mut to)?;
+    to.flush().map_err(|why| format!("a write failed: {why}"))?;
+    end
+}
+
+fn main() -> ExitCode {
+    match run(io::stdin().lock(), io::stdout().lock()) {
+        Ok(()) => ExitCode::SUCCESS,
+        Err(why) => {
+            // Where standard error is closed as well, the status has to say it.
+            let _ = writeln!(io::stderr(), "echo: {why}");
+            ExitCode::FAILURE
+        }
     }
-    let answer = tau::flush(state, [shadow, output, spectra], &mut out);
-    give(&answer, &out)?;
-    eprintln!(
-        "moves {}, resets {}, double talk {}",
-        answer.transfers, answer.divergence_resets, answer.double_talk
-    );
-    Ok(())
 }
