@@ -1,10 +1,9 @@
 # The library for C and Rust programs, in the usual words:
 #
-#     make                          build/libaspeyruni.a, build/libaspeyruni.so.VERSION and build/aspeyruni.pc; proves first, which takes minutes once
-#     make install PREFIX= DESTDIR= header, libraries, aspeyruni.pc, licence (PREFIX is /usr/local unless given)
-#     make uninstall PREFIX= DESTDIR=
-#     make check                    installs to build/stage, builds the examples over that by pkg-config, holds what they write against the program's
-#     make clean                    removes build/; what is proved stays in target/
+#     make            build/libaspeyruni.a, build/libaspeyruni.so.VERSION and build/aspeyruni.pc; proves first, which takes minutes once
+#     make install    header, libraries, aspeyruni.pc and licence, to PREFIX (/usr/local unless given) below DESTDIR; make uninstall
+#     make check      installs to build/stage, builds the examples over that by pkg-config, and holds what they write against the program's
+#     make clean      removes build/; what is proved stays in target/
 #
 # MACHINE is the processor that the library is for, as `uname -m` names it. For another than this one give CC a compiler for it, and RUN what
 # runs its programs: make check MACHINE=aarch64 CC=aarch64-linux-gnu-gcc RUN='qemu-aarch64 -L /usr/aarch64-linux-gnu'
@@ -27,7 +26,10 @@ so := libaspeyruni.so.$(version)
 stage := build/stage
 staged = PKG_CONFIG_PATH=$(stage)/lib/pkgconfig $(PKG_CONFIG)
 c_example = $(CC) -std=c99 -Wall -Wextra -Wpedantic $(CFLAGS) $$($(staged) --cflags aspeyruni) -o $@ $<
-pc = sed -e 's|@prefix@|$(PREFIX)|' -e 's|@includedir@|$(INCLUDEDIR)|' -e 's|@libdir@|$(LIBDIR)|' -e 's|@version@|$(version)|' aspeyruni.pc.in
+# PREFIX may be given from this folder on. The stage's stays so: pkg-config escapes a space in a whole path, where the shell then splits.
+whole := realpath -ms
+pc = sed -e "s|@prefix@|$$($(whole) '$(PREFIX)')|" -e "s|@includedir@|$$($(whole) '$(INCLUDEDIR)')|" \
+	-e "s|@libdir@|$$($(whole) '$(LIBDIR)')|" -e 's|@version@|$(version)|' aspeyruni.pc.in
 
 .PHONY: all install uninstall examples check clean FORCE
 all: build/libaspeyruni.a build/$(so) build/aspeyruni.pc
@@ -59,7 +61,7 @@ uninstall:
 	rm -rf '$(DESTDIR)$(DOCDIR)'
 
 $(stage)/.installed: build/libaspeyruni.a build/$(so) include/aspeyruni.h aspeyruni.pc.in LICENSE NOTICE
-	@$(MAKE) -s install DESTDIR= PREFIX=$(stage) INCLUDEDIR=$(stage)/include LIBDIR=$(stage)/lib DOCDIR=$(stage)/doc
+	@$(MAKE) -s install DESTDIR= PREFIX=$(stage) INCLUDEDIR=$(stage)/include LIBDIR=$(stage)/lib DOCDIR=$(stage)/doc whole=echo
 	@touch $@
 
 # One C program over the shared library, one over the archive, the frames' host, and one in Rust where there is rustc for this processor.
@@ -81,7 +83,7 @@ build/examples/echo_rs: examples/echo.rs include/aspeyruni.rs $(stage)/.installe
 	@mkdir -p $(@D)
 	@if [ $(MACHINE) = $$(uname -m) ] && command -v $(RUSTC) >/dev/null; then \
 	    set -x; $(RUSTC) --edition 2021 -O -L native=$(stage)/lib -l static=aspeyruni -o $@ $<; \
-	else echo 'make: no $(RUSTC) for $(MACHINE) here: the Rust example is left out'; fi
+	else rm -f $@; echo 'make: no $(RUSTC) for $(MACHINE) here: the Rust example is left out'; fi
 
 build/tests/pcm16: tests/pcm16.c
 	@mkdir -p $(@D)
