@@ -5,5 +5,6 @@ pub mod Narrowed
 pub mod Ordered
 pub mod Zeros
 pub mod Ranged
+pub mod Squares
 pub mod Clean
 pub mod Marked

@@ -229,7 +229,7 @@ sum-power f false a true b c C p q = go (ltb a b) (ltb→lt a b)
 sum-power f false a false b c C p q = round-power f (a + b) c C
 
 -- the size of a power that is marked negative is 0
-none-below : (s : Bool) (m : ℕ) (e : ℤ) (d : ℕ) → T (isPower (fin s m e)) → s ≡ true → m * up e * d ≡ 0
+pub none-below : (s : Bool) (m : ℕ) (e : ℤ) (d : ℕ) → T (isPower (fin s m e)) → s ≡ true → m * up e * d ≡ 0
 none-below s zero e d h k = none-of (up e) d
 none-below true (suc m) e d h k = absurd h
 none-below false (suc m) e d h k = absurd (true≢false (sym k))

@@ -22,7 +22,7 @@ use Rattle.laws.specs.Tables.{length-table, length-table2, table-at}
 use Rattle.numbers.specs.Finite.{plus, isFinite}
 use Rattle.numbers.specs.Zeros.{Zero, Faint, Plus, Blank}
 use Rattle.numbers.proofs.Values.{sub-zero}
-use Rattle.numbers.proofs.Zeros.{faints, pluses, plus-zero, plus-add, plus-mul, plus-blank, plus-faint, zero-faint, zero-finite, zero-ne, zero-square, finite-true}
+use Rattle.numbers.proofs.Zeros.{faints, pluses, plus-zero, plus-mul, plus-blank, plus-faint, zero-faint, zero-finite, zero-ne, finite-true}
 use Rattle.fft.specs.Calls.{samplesOf}
 use Rattle.fft.proofs.Silence.{silent-spectrum, silent-samples, faint-spectrum, faint-samples}
 use Rattle.tau_clears.specs.Clears.{divergeShadow, retireOutput}
@@ -30,6 +30,7 @@ use Rattle.tau_state.specs.Constants.{zero32, zero64, f0·5}
 use Rattle.tau_guard.specs.Guard.{Guarded, replaced, guarded}
 use Rattle.tau_paths.specs.Paths.{Comparison, shadowAfter, outputAfter, acted, compared}
 use Rattle.tau_state.specs.Sums.{energyOf}
+use Rattle.tau_steps.proofs.Energy.{zero64-is, energy-none}
 use Rattle.tau_clears.specs.Weights.{cleared, halved}
 use Rattle.tau_state.specs.declared.state.Guard.{Guard}
 use Rattle.tau_state.specs.declared.state.Mic.{Mic}
@@ -52,14 +53,10 @@ use Rattle.tau_block_laws.proofs.Kept.{next-slot, learnt-lengths}
 
 -- ---- small things
 
--- the two formats' 0.0 are +0.0
+-- f32's 0.0 is +0.0, as f64's is
 pub zero32-is : zero32 ≡ plus
 unfolding ofBits
 zero32-is = refl
-
-zero64-is : zero64 ≡ plus
-unfolding ofBits
-zero64-is = refl
 
 plus32 : Plus zero32
 plus32 = record { is = zero32-is }
@@ -116,11 +113,8 @@ sounds-not {b} h =
     (λ k on i p. neither on (ne (getD b k nan) zero32) p (ap (ne (getD b k nan)) zero32-is ∙ zero-ne (all-get k nan (h .all) (omega (arith, h .long)))))
 
 -- the block's energy, the peak,
-energy-none : {b : List Float} → Kept Zero 256 b → Plus (energyOf b 256)
-unfolding energyOf
-energy-none {b} h =
-    iter-keeps Plus (λ k a. add binary64 a (mul binary64 (getD b k nan) (getD b k nan))) zero64 256 plus64
-    (λ k a i p. plus-add binary64 p (plus-zero (zero-square binary64 (all-get k nan (h .all) (omega (arith, h .long))))))
+block-none : {b : List Float} → Kept Zero 256 b → Plus (energyOf b 256)
+block-none {b} h = energy-none b 256 (λ k i. all-get k nan (h .all) (omega (arith, h .long)))
 
 peak-none : {peak e : Float} → Plus peak → Plus e → Plus (energyPeak peak e)
 unfolding energyPeak
@@ -149,7 +143,7 @@ heard-hushed {s} {far} {sh} {ou} {xs} S F =
     let w = window-zero (S .window) F in
     let r = next-slot (s .partitions) (s .far .head) (S .ring) in
     let p : energyPeak (s .far .«far_energy_peak») (energyOf far 256) ≡ zero64 =
-    peak-none (record { is = S .peak ∙ zero64-is }) (energy-none F) .is ∙ sym zero64-is in
+    peak-none (record { is = S .peak ∙ zero64-is }) (block-none F) .is ∙ sym zero64-is in
     record {
       ring = r;
       still = neither (s .far .«far_active») (sounds far 256) (S .still) (sounds-not F);

@@ -1,3 +1,4 @@
 pub mod Bounds
 pub mod Lengths
 pub mod Marked
+pub mod Energy
