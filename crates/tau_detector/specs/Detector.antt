@@ -1,5 +1,5 @@
 -- The house detector (document 01, "House detector"). Definitions only.
-use mathlib.Core.Bool.{Bool, _&&_, _||_}
+use mathlib.Core.Bool.{Bool, not, _&&_, _||_}
 use mathlib.Core.List.{List}
 use Prim.Native.Nat.{ℕ, _+_}
 use lib.Dec.{ltb, leb}
@@ -39,7 +39,7 @@ stepScaleOf count smooth = pick (established count) (clampOf (div binary64 smoot
 unfoldable pub protectOf : ℕ → Float → Bool
 protectOf count smooth = established count && lt smooth f0·2
 
--- a far-active block with coherence c; baseline and deviation in `collapsed` "as they were before this block"
+-- a block that is learned from, with coherence c; baseline and deviation in `collapsed` "as they were before this block"
 unfoldable pub learned : Detector → Float → Detector
 learned d c =
     let count = countOf (d .«dtd_blocks») in
@@ -56,7 +56,7 @@ learned d c =
       «step_scale» = stepScaleOf count smooth;
     }
 
--- "Not far active: nothing changes": the verdict that stands is the block's
+-- any other block: "nothing changes", and the verdict that stands is the block's
 unfoldable pub stands : Detector → Detector
 stands d = record {
   «double_talk» = d .«dtd_collapsed» || d .«protect_output»;
@@ -69,6 +69,12 @@ stands d = record {
   «step_scale» = d .«step_scale»;
 }
 
+-- Which blocks are learned from. In document 01 it is every far-active one. Request K5 mends that: "A block whose near energy over the
+-- valid samples is 0 must leave the whole detector as it was, just as a far-inactive block does."
+abbrev pub evidence : Bool → Float → Bool
+evidence active nearEnergy = active && not (eq nearEnergy zero64)
+
 -- The detector after a block, "cross being the sum of near times shadow estimate over the valid samples in f64".
 unfoldable pub judged : Bool → Float → List Float → List Float → ℕ → Detector → Detector
-judged active nearEnergy near estimate valid d = pick active (learned d (coherenceOf (crossOf near estimate valid) nearEnergy (energyOf estimate valid))) (stands d)
+judged active nearEnergy near estimate valid d =
+    pick (evidence active nearEnergy) (learned d (coherenceOf (crossOf near estimate valid) nearEnergy (energyOf estimate valid))) (stands d)

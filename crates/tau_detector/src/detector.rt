@@ -106,7 +106,8 @@ fn learn(d: Detector, c: f64) -> Detector
     }
 }
 
-// The detector after a block; its verdict stands in it.
+// The detector after a block; its verdict stands in it. It learns from far-active blocks, but not from one in which the microphone is
+// muted (request K5): there the near energy is 0.
 pub fn double_talk_block(
     d: Detector,
     far_is_active: bool,
@@ -118,7 +119,8 @@ pub fn double_talk_block(
     requires { ⌜ valid ≤ 256 ⌝ }
     ensures { λ r. ⌜ r ≡ judged «far_is_active» «near_energy» (now (near .entry)) (now (estimate .entry)) valid d ⌝ }
 {
-    if far_is_active {
+    let is_evidence = far_is_active & !(near_energy == 0.0);
+    if is_evidence {
         let c = coherence(
             cross(near, estimate, valid),
             near_energy,

@@ -25,7 +25,7 @@ use Rattle.tau_state.specs.Constants.{zero64, f0·1, f0·5, f0·75}
 use Rattle.tau_steps.specs.Bounds.{Leak}
 use Rattle.tau_state.specs.Sums.{energyOf}
 use Rattle.tau_clears.specs.Clears.{divergeShadow, divergeOf, retireOutput}
-use Rattle.tau_detector.specs.Detector.{countOf, learned, stands, judged}
+use Rattle.tau_detector.specs.Detector.{countOf, evidence, learned, stands, judged}
 use Rattle.tau_paths.specs.Paths.{weighed, leakOf, advantageOf, verdict, settled, Comparison, acted, compared}
 use Rattle.tau_guard.specs.Guard.{watched, trips, Guarded, guarded}
 use Rattle.tau_state.specs.declared.state.Detector.{Detector}
@@ -156,7 +156,7 @@ count-small n = pick-if (λ r. r ≤ 64) (ltb n 64) (λ h. omega (arith, ltb-tru
 pub judged-count : (active : Bool) (energy : Float) (near est : List Float) (n : ℕ) (d : Detector) → d .«dtd_blocks» ≤ 64
     → judged active energy near est n d .«dtd_blocks» ≤ 64
 unfolding judged learned stands
-judged-count active energy near est n d h = pick-if (λ (r : Detector). r .«dtd_blocks» ≤ 64) active (λ _. count-small (d .«dtd_blocks»)) (λ _. h)
+judged-count active energy near est n d h = pick-if (λ (r : Detector). r .«dtd_blocks» ≤ 64) (evidence active energy) (λ _. count-small (d .«dtd_blocks»)) (λ _. h)
 
 -- ---- the rescue streak
 

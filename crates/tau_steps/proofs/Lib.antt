@@ -2,3 +2,4 @@ pub mod Bounds
 pub mod Lengths
 pub mod Marked
 pub mod Energy
+pub mod Muted
