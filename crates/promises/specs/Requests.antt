@@ -1,0 +1,50 @@
+-- What is promised of the requests that came after document 01, besides what they changed in its rules: those stand in the definitions,
+-- each beside the sentence that it mends. Statements; proved in proofs/Requests.antt.
+use mathlib.Core.Path.{_≡_}
+use mathlib.Core.Bool.{Bool, true, false, _||_}
+use mathlib.Core.List.{List}
+use Prim.Native.Nat.{ℕ, _+_, _≤_, _<_, min}
+use lib.Dec.{T}
+use lib.ListN.{getD}
+use lib.Ieee.{Float, nan, eq}
+use Rattle.numbers.specs.Zeros.{Zero, Fits}
+use Rattle.tau_state.specs.Constants.{zero64}
+use Rattle.tau_state.specs.Sums.{energyOf}
+use Rattle.tau_state.specs.declared.state.Detector.{Detector}
+use Rattle.tau_spectra.specs.Far.{hearFar}
+use Rattle.tau_block.specs.Block.{Block, Engine, runBlock}
+
+-- ---- K5. A muted microphone is no evidence
+
+-- the near energy of a block over its valid samples is 0
+abbrev pub Muted : Block → Type 0
+Muted b = T (eq (energyOf (b .near) (b .valid)) zero64)
+
+-- "the whole detector as it was, just as a far-inactive block does": double talk is the verdict that is stored
+pub record AsItWas (before after : Detector) : Type 0 where
+  pub count : after .«dtd_blocks» ≡ before .«dtd_blocks»
+  pub baseline : after .«dtd_baseline» ≡ before .«dtd_baseline»
+  pub deviation : after .«dtd_deviation» ≡ before .«dtd_deviation»
+  pub smooth : after .«coherence_smooth» ≡ before .«coherence_smooth»
+  pub stepScale : after .«step_scale» ≡ before .«step_scale»
+  pub collapsed : after .«dtd_collapsed» ≡ before .«dtd_collapsed»
+  pub protected : after .«protect_output» ≡ before .«protect_output»
+  pub doubleTalk : after .«double_talk» ≡ before .«dtd_collapsed» || before .«protect_output»
+
+-- "A block whose near energy over the valid samples is 0 must leave the whole detector as it was": every such block, whatever the state, the
+-- buffers and the far samples, a flush's too
+abbrev pub MutedStands : Type 0
+MutedStands = (e : Engine) (far : List Float) (b : Block) → Muted b → AsItWas (e .state .mic .detector) (runBlock e far b .engine .state .mic .detector)
+
+-- and no other far-active one: "the count goes up by 1, to 64 at most"
+abbrev pub HeardCounts : Type 0
+HeardCounts = (e : Engine) (far : List Float) (b : Block) → hearFar (e .state .partitions) (e .state .far) far (e .spectra) .active ≡ true
+    → (Muted b → ⊥) → e .state .mic .detector .«dtd_blocks» ≤ 64
+    → runBlock e far b .engine .state .mic .detector .«dtd_blocks» ≡ min (e .state .mic .detector .«dtd_blocks» + 1) 64
+
+-- Sample by sample: the energy is 0 exactly where every valid sample is 0.0 or -0.0. One f32 that is neither, the least of them, an infinity
+-- or a NaN, is a sound.
+abbrev pub MutedSamples : Type 0
+MutedSamples = (near : List Float) (valid : ℕ) → ((k : ℕ) → k < valid → Fits (getD near k nan))
+    → (T (eq (energyOf near valid) zero64) → (k : ℕ) → k < valid → Zero (getD near k nan))
+    × (((k : ℕ) → k < valid → Zero (getD near k nan)) → T (eq (energyOf near valid) zero64))
