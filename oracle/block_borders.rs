@@ -24,6 +24,7 @@ pub fn all(list: &mut List) {
     overflows(list);
     divergences(list);
     far_silent(list);
+    muted(list);
 }
 
 impl List {
@@ -70,33 +71,30 @@ fn edges_again(list: &mut List) {
         .map(f64::from)
         .find(|x| 0.98 * (1.05 * x) == 1.05 * (0.98 * x));
     let near = near.unwrap();
-    let states: [&dyn Fn(&mut TauCanceller); 5] = [
-        &|s| {
+    let states: [(Kind, &dyn Fn(&mut TauCanceller)); 5] = [
+        (SILENCE, &|s| {
             s.mic.paths.shadow_error_power = 4.0;
             s.mic.paths.output_error_power = 1.0;
-        },
-        &|s| {
-            s.mic.detector.dtd_baseline = 0.0;
-            s.mic.paths.output_error_power = -3.0;
-        },
+        }),
+        (SILENCE, &|s| s.mic.paths.output_error_power = -3.0),
         // the margin of a deviation above its floor
-        &|s| {
+        (LEAST, &|s| {
             s.mic.detector.dtd_baseline = 0.75;
             s.mic.detector.dtd_deviation = 0.25;
-        },
+        }),
         // at 0.2 it is quiet, and the output moves
-        &|s| {
+        (LEAST, &|s| {
             s.mic.detector.dtd_baseline = 0.0;
             s.mic.detector.coherence_smooth = 0.25;
-        },
-        &|s| {
+        }),
+        (SILENCE, &|s| {
             s.mic.guard.divergence_near_power = near;
             s.mic.guard.divergence_out_power = 1.05 * near;
-        },
+        }),
     ];
-    for change in states {
+    for (near, change) in states {
         list.learnt(2, change);
-        list.each(SILENCE, SOUND, 0.0, 1);
+        list.each(near, SOUND, 0.0, 1);
     }
     // at 0.2 with a c of 1, which one sample has
     list.learnt(1, |s| {
@@ -109,44 +107,45 @@ fn edges_again(list: &mut List) {
 }
 
 /// Just above the number of a test and just below it, with powers on both sides that are not 0. But for far energy near is silent and the
-/// weights are 0, so that a block brings no energy.
+/// weights are 0, so that a block brings no energy; for the detector, which learns from no silence, it brings next to none.
 fn borders(list: &mut List) {
     let sounds = sounds_of(word_of(2), LOW, SOUND, 0.0);
     for by in [1.0 - 1e-10, 1.0 + 1e-10] {
         list.learnt(1, |s| s.far.far_energy_peak = energy(sounds) / 1e-4 * by);
         list.run('b', sounds, BLOCK, 1);
     }
-    let states: [fn(&mut TauCanceller, f64); 6] = [
+    let states: [(Kind, fn(&mut TauCanceller, f64)); 6] = [
         // the deviation's floor 0.01, and with a deviation above it the margin 3 alone
-        |s, by| {
+        (LEAST, |s, by| {
             s.mic.detector.dtd_baseline = 0.03 * (1.0 + by);
             s.mic.detector.dtd_deviation = 0.0;
-        },
-        |s, by| {
+        }),
+        (LEAST, |s, by| {
             s.mic.detector.dtd_baseline = 0.75 * (1.0 + by);
             s.mic.detector.dtd_deviation = 0.25;
-        },
+        }),
         // the advantage 0.1, which is what 0.9 leaves of 1
-        |s, by| {
-            s.mic.detector.dtd_baseline = 0.0;
+        (SILENCE, |s, by| {
             s.mic.paths.shadow_error_power = 0.9 * (1.0 - by / 10.0);
             s.mic.paths.output_error_power = 1.0;
-        },
+        }),
         // the rescue's 4, the guard's 1.05, and 0.2, of which smooth keeps 0.8
-        |s, by| {
+        (SILENCE, |s, by| {
             s.mic.paths.shadow_error_power = 4.0 * (1.0 + by);
             s.mic.paths.output_error_power = 1.0;
-        },
-        |s, by| {
+        }),
+        (SILENCE, |s, by| {
             s.mic.guard.divergence_near_power = 1.0;
             s.mic.guard.divergence_out_power = 1.05 * (1.0 + by);
-        },
-        |s, by| s.mic.detector.coherence_smooth = 0.25 * (1.0 + by),
+        }),
+        (LEAST, |s, by| {
+            s.mic.detector.coherence_smooth = 0.25 * (1.0 + by)
+        }),
     ];
-    for change in states {
+    for (near, change) in states {
         for by in [1e-10, -1e-10] {
             list.learnt(1, |s| change(s, by));
-            list.block_of(SOME, SILENCE, SOUND, 0.0);
+            list.block_of(SOME, near, SOUND, 0.0);
         }
     }
 }
@@ -186,7 +185,6 @@ fn last_digits(list: &mut List) {
     list.block_of(SOME, SILENCE, SOUND, 0.0);
     // 1 - 0.9 is below 0.1, so nothing moves, though the shadow's power is not above 0.9 of the output's
     list.learnt(1, |s| {
-        s.mic.detector.dtd_baseline = 0.0;
         s.mic.paths.shadow_error_power = 0.9;
         s.mic.paths.output_error_power = 1.0;
     });
@@ -238,20 +236,19 @@ fn likeness((shadow, sounds): (u64, u64)) -> f64 {
 /// What a condition asks, and what it does not. A collapse asks the baseline before this block: by the one after it there is none. A move
 /// asks an output power above 0.
 fn conditions(list: &mut List) {
-    let states: [fn(&mut TauCanceller); 2] = [
-        |s| {
+    let states: [(Kind, fn(&mut TauCanceller)); 2] = [
+        (LEAST, |s| {
             s.mic.detector.dtd_baseline = 0.0302;
             s.mic.detector.dtd_deviation = 0.0;
-        },
-        |s| {
-            s.mic.detector.dtd_baseline = 0.0;
+        }),
+        (SILENCE, |s| {
             s.mic.paths.shadow_error_power = -1.0;
             s.mic.paths.output_error_power = 0.0;
-        },
+        }),
     ];
-    for change in states {
+    for (near, change) in states {
         list.learnt(1, change);
-        list.block_of(SOME, SILENCE, SOUND, 0.0);
+        list.block_of(SOME, near, SOUND, 0.0);
     }
 }
 
@@ -387,4 +384,55 @@ fn far_silent(list: &mut List) {
     list.learnt(1, |s| s.far.far_active = false);
     list.make_by(WINDOW, Recipe64::noise(5, SOUND));
     list.block_of(SOME, LOW, SILENCE, 0.0);
+}
+
+/// A microphone that is muted: near is zeros of either sign, and the detector stays as it was (request K5).
+fn muted(list: &mut List) {
+    let mute = |word, near| Sounds {
+        near: Recipe::of(near),
+        far: Recipe::noise(word, FULL),
+        gain: 0.0,
+    };
+    // joining muted, for longer than would establish it, and in mid-call; an echo after each
+    list.create(2, true);
+    for blocks in [70, 40] {
+        list.run('b', mute(word_of(blocks), 0.0), BLOCK, blocks as usize);
+        list.run(
+            'b',
+            sounds_of(word_of(blocks + 1), LOW, FULL, 0.5),
+            BLOCK,
+            75,
+        );
+    }
+    // the least sound is evidence, wherever in the block, and a zero is none, whatever its sign; nor is one sample of a flush
+    for (at, sample) in [(0, f32::from_bits(1)), (255, -f32::from_bits(1)), (9, -0.0)] {
+        list.learnt(1, |s| s.mic.detector.dtd_blocks = 63);
+        let mut sounds = mute(SOME, -0.0);
+        sounds.near = sounds.near.marked(at, sample);
+        list.run('b', sounds, BLOCK, 1);
+        list.run('f', sounds, 1, 1);
+    }
+    // not a number is no zero
+    list.learnt(1, |s| s.mic.detector.dtd_blocks = 63);
+    let mut sounds = mute(SOME, 0.0);
+    sounds.near = sounds.near.marked(100, f32::NAN);
+    list.run('b', sounds, BLOCK, 1);
+    // every stored verdict stands, at odds with the flag too, and with a count below 64, with which a block that is learned from gives none
+    for (count, collapsed, protected) in [(64, true, false), (64, false, true), (10, true, true)] {
+        list.learnt(1, |s| {
+            s.mic.detector.dtd_blocks = count;
+            s.mic.detector.dtd_collapsed = collapsed;
+            s.mic.detector.protect_output = protected;
+            s.mic.detector.step_scale = 0.5;
+        });
+        list.run('b', mute(SOME, 0.0), BLOCK, 1);
+        list.block_of(SOME, SILENCE, SILENCE, 0.0);
+    }
+    // both filters diverge while near is 0.0, and it stays so: the streak comes to 6 with an output power that is not above 0
+    list.learnt(1, |_| {});
+    list.make_by(SHADOW, Recipe64::noise(1, INFINITE64));
+    list.make_by(OUTPUT, Recipe64::noise(1, INFINITE64));
+    for _ in 0..8 {
+        list.run('b', mute(SOME, 0.0), BLOCK, 1);
+    }
 }

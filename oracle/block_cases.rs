@@ -333,37 +333,35 @@ fn counters(list: &mut List) {
 }
 
 /// Where a test has its bound, and where it sees a NaN. Near is silent and the weights are 0, so that errors, energies and c are too.
+/// Where the detector is to learn, near is the least sound that there is: from a muted one it does not.
 fn edges(list: &mut List) {
-    let states: [fn(&mut TauCanceller); 9] = [
+    let states: [(Kind, fn(&mut TauCanceller)); 9] = [
         // the shadow's power is 4 times the output's; and error and echo are without power
-        |s| s.mic.paths = Paths::default(),
+        (SILENCE, |s| s.mic.paths = Paths::default()),
         // quiet for long enough, and an output power that is not above 0
-        |s| {
-            s.mic.detector.dtd_baseline = 0.0;
-            s.mic.paths.output_error_power = -1e6;
-        },
+        (SILENCE, |s| s.mic.paths.output_error_power = -1e6),
         // c lies by the margin below the baseline
-        |s| {
+        (LEAST, |s| {
             s.mic.detector.dtd_baseline = 0.03;
             s.mic.detector.dtd_deviation = 0.0;
-        },
-        |s| s.mic.detector.dtd_deviation = f64::NAN,
+        }),
+        (LEAST, |s| s.mic.detector.dtd_deviation = f64::NAN),
         // 0.8 of it is 0.2
-        |s| s.mic.detector.coherence_smooth = 0.25,
-        |s| s.mic.detector.coherence_smooth = f64::NAN,
-        |s| s.far.far_energy_peak = f64::NAN,
-        |s| s.far.far_energy_peak = f64::INFINITY,
+        (LEAST, |s| s.mic.detector.coherence_smooth = 0.25),
+        (LEAST, |s| s.mic.detector.coherence_smooth = f64::NAN),
+        (SILENCE, |s| s.far.far_energy_peak = f64::NAN),
+        (SILENCE, |s| s.far.far_energy_peak = f64::INFINITY),
         // the output's power is 1.05 times near's
-        |s| {
+        (SILENCE, |s| {
             s.mic.guard.divergence_near_power = 1.0;
             s.mic.guard.divergence_out_power = 1.05;
-        },
+        }),
     ];
-    for change in states {
+    for (near, change) in states {
         let mut state = established(1);
         change(&mut state);
         list.new_with(state);
-        list.each(SILENCE, SOUND, 0.0, 1);
+        list.each(near, SOUND, 0.0, 1);
     }
     target_is_gain(list, 1, LOW);
     amid_rescue(list, 1, 5, 50);

@@ -8,7 +8,7 @@ use crate::tau_calls::Outcome;
 use crate::tau_reference::Seen;
 
 /// All that a list has to reach, in the order of the block's steps.
-const ALL: [&str; 51] = [
+const ALL: [&str; 56] = [
     "1 partition",
     "2 partitions",
     "4 partitions",
@@ -31,11 +31,16 @@ const ALL: [&str; 51] = [
     "protected",
     "not protected, established",
     "verdict kept, far not active",
+    "muted, not established",
+    "muted, established",
+    "muted, far not active",
+    "verdict kept, muted",
     "step scale 0.01",
     "step scale between",
     "step scale 1, established",
     "compared",
     "compared, the shadow having diverged",
+    "compared, muted",
     "rescue streak broken",
     "rescue",
     "quiet streak below 6",
@@ -111,11 +116,16 @@ impl Ran<'_> {
             "protected" => established && d.protect_output,
             "not protected, established" => established && !d.protect_output,
             "verdict kept, far not active" => !active && d.dtd_collapsed,
+            "muted, not established" => t.is_muted && active && !established,
+            "muted, established" => t.is_muted && established,
+            "muted, far not active" => t.is_muted && sounded && !active,
+            "verdict kept, muted" => t.is_muted && active && d.dtd_collapsed,
             "step scale 0.01" => established && scale == 0.01,
             "step scale between" => established && 0.01 < scale && scale < 1.0,
             "step scale 1, established" => established && scale == 1.0,
             "compared" => t.compared,
             "compared, the shadow having diverged" => t.compared && t.shadow_diverged,
+            "compared, muted" => t.compared && t.is_muted,
             "rescue streak broken" => {
                 t.compared
                     && !t.rescued

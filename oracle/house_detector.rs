@@ -1,4 +1,5 @@
-//! Document 01's house detector, in place of the Rust's own (oracle/rust). It is on every block, and its numbers are the engine's.
+//! Document 01's house detector, mended by request K5, in place of the Rust's own (oracle/rust). It is on every block, and its numbers are
+//! the engine's.
 
 use crate::rust_tau::TauCanceller;
 
@@ -6,8 +7,8 @@ use crate::rust_tau::TauCanceller;
 const ESTABLISHED: u32 = 64;
 
 impl TauCanceller {
-    /// The stored verdict: whether the block's likeness to the shadow's estimate collapsed, this block's if far sounds, and otherwise
-    /// the one before.
+    /// The stored verdict: whether the block's likeness to the shadow's estimate collapsed, this block's if far sounds and near does, and
+    /// otherwise the one before.
     pub(crate) fn double_talk_block(
         &mut self,
         near: &[f32],
@@ -17,7 +18,9 @@ impl TauCanceller {
         far_is_active: bool,
     ) -> bool {
         self.taken.far_is_active = far_is_active;
-        if far_is_active {
+        // request K5: a muted microphone is no evidence
+        self.taken.is_muted = near_energy == 0.0;
+        if far_is_active && !self.taken.is_muted {
             let c = likeness(near, near_energy, estimate, estimate_energy);
             self.taken.likeness = Some(c);
             self.judge(c);

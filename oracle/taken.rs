@@ -10,6 +10,8 @@ pub struct Taken {
     pub diverged: bool,
     /// By step 4, of this block.
     pub far_is_active: bool,
+    /// Near has no energy.
+    pub is_muted: bool,
     /// The detector's c, where it took one.
     pub likeness: Option<f64>,
     /// The two-path comparison, and what came of it.

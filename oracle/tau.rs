@@ -368,11 +368,12 @@ impl Both {
         let end = self.counts.blocks() + blocks;
         while self.counts.blocks() < end {
             self.call(&Call::Create(partitions, suppress), self.rightly_lent());
-            match self.random.below(8) {
+            match self.random.below(9) {
                 0 => self.silence(),
                 1 => self.spoilt(),
                 2 => self.foreign(),
                 3 => self.overflow(),
+                4 => self.muted(),
                 _ => {
                     let blocks = 66 + self.random.below(30);
                     let echo = self.random.one_of(&ECHOES);
@@ -397,6 +398,12 @@ impl Both {
                 }
             }
         }
+    }
+
+    /// Joining muted, for longer than would establish the detector, and the echo after it.
+    fn muted(&mut self) {
+        self.hear(scene(SILENCE, FULL, 0.0), 70);
+        self.hear(scene(LOW, FULL, 0.5), 75);
     }
 
     /// Sound in the room alone, and the first far sound after it.

@@ -23,6 +23,7 @@ mod tau_lines;
 mod tau_reference;
 
 use aspeyruni::tau::*;
+use aspeyruni::MAX_PAIRS;
 use branches::Counts;
 use inputs::{bits, halves, hash32, line, turned, Random};
 use kinds::*;
@@ -316,6 +317,7 @@ fn main() {
     // these came later: at the end, so that the lines before them keep their seeds
     reset_streaks(&mut list);
     refused_without_pairs(&mut list);
+    muted(&mut list);
     list.counts.tell_all_taken();
     let [c, p, f, r] = list.calls;
     eprintln!("{c} calls of create, {p} of process, {f} of flush, {r} of reset");
@@ -715,4 +717,36 @@ fn refused_without_pairs(list: &mut List) {
         list.set(change);
         list.process_any(ones(), [0, 0], 0);
     }
+}
+
+/// A microphone that is muted, over calls: near is 0.0, or no number, which is read so (request K5).
+fn muted(list: &mut List) {
+    let mute = |list: &mut List, near: f32, far: Kind| Sounds {
+        near: Recipe::of(near),
+        far: Recipe::noise(list.seed(), far),
+        gain: 0.0,
+    };
+    // joining muted for 80 blocks, and the echo past the first moves
+    list.create(2, true);
+    for _ in 0..5 {
+        let sounds = mute(list, 0.0, FULL);
+        list.pairs(sounds, MAX_PAIRS);
+    }
+    for _ in 0..5 {
+        list.kinds(LOW, FULL, 0.5, MAX_PAIRS);
+    }
+    // a mute in mid-call, by NaNs, with a pause of the film in it, and a flush of zeros
+    for (near, far) in [(f32::NAN, FULL), (-0.0, SILENCE), (0.0, FULL)] {
+        let sounds = mute(list, near, far);
+        list.pairs(sounds, 2 * BLOCK + 7);
+    }
+    list.flush();
+    list.kinds(LOW, FULL, 0.5, 3 * BLOCK);
+    // a NaN that waits in the carry is no zero, so that block is not muted
+    list.established(1, true);
+    list.make_with(NEAR_CARRY, SILENCE, 0, f32::NAN.to_bits().into());
+    list.set(|s| s.carried = 1);
+    let sounds = mute(list, 0.0, FULL);
+    list.pairs(sounds, 2 * BLOCK);
+    list.flush();
 }
