@@ -38,9 +38,9 @@ fn every_line_comes_to_its_answer() {
     for line in &lines {
         replay.take(line);
     }
-    assert_eq!(lines.len(), 442);
+    assert_eq!(lines.len(), 464);
     let owned = Owned {
-        taken: 396,
+        taken: 418,
         refused: 46,
     };
     assert_eq!(replay.owned, owned);
