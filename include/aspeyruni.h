@@ -71,9 +71,10 @@ uint32_t aspeyruni_complex_inverse(double *points, size_t points_len);
  * 64 ms at 16 kHz and 21 ms at 48 kHz. Later echo stays.
  *
  * The filter that it delivers through, the output filter, starts from zero and moves only in far-active blocks: those whose far energy is
- * above 1e-4 of the loudest far block's since create or reset. The 69th of them is the first that can move it. So at least 69 blocks pass,
- * 1.1 s at 16 kHz: bit for bit without suppression, and with it until the far end sounds. After that suppression takes them through a
- * transform and back, which changed a sample by 1e-15 of the loudest in its block and the one before at most (measured).
+ * above 1e-4 of the loudest far block's since create or reset. The 69th of them is the first that can move it, and later where the
+ * microphone was muted: one in which all of near is zeros does not count. So at least 69 blocks pass, 1.1 s at 16 kHz: bit for bit
+ * without suppression, and with it until the far end sounds. After that suppression takes them through a transform and back, which
+ * changed a sample by 1e-15 of the loudest in its block and the one before at most (measured).
  *
  * The loudest block is never forgotten. One far sample above 1,600 times the RMS of what follows, such as 10,000 where full scale is 1.0,
  * leaves no later block far active: the output filter moves no more until a reset, and echo that it does not know by then stays. */
