@@ -26,6 +26,7 @@ const STEP_SCALE_FLOOR: f64 = 0.01;
 
 const PROTECT_COHERENCE: f64 = 0.2;
 
+// Document 01's rule whole. Since request K5 no block without near energy comes here, so the first test is never met.
 fn coherence(cross: f64, near_energy: f64, estimate_energy: f64) -> f64
     ensures { λ r. ⌜ r ≡ coherenceOf cross «near_energy» «estimate_energy» ⌝ }
 {
