@@ -1,5 +1,5 @@
 -- What is promised of the requests, from what is proved of the steps and the blocks. Assumes nothing.
-use mathlib.Core.Path.{_≡_, refl, sym, ap, _∙_, subst}
+use mathlib.Core.Path.{_≡_, refl, sym, subst}
 use mathlib.Core.Bool.{Bool, true, false}
 use Prim.Native.Nat.{ℕ, _+_, _≤_, min}
 use native.Mathlib.Omega.{arith}
@@ -10,10 +10,10 @@ use Rattle.laws.specs.Choice.{pick-if}
 use Rattle.tau_state.specs.Constants.{zero64}
 use Rattle.tau_state.specs.Sums.{energyOf}
 use Rattle.tau_state.specs.declared.state.Detector.{Detector}
-use Rattle.tau_detector.specs.Detector.{countOf, stands}
+use Rattle.tau_detector.specs.Detector.{countOf, learned, stands}
 use Rattle.tau_steps.proofs.Energy.{energy-zeros}
 use Rattle.tau_block_laws.proofs.Muted.{muted-block, heard-block}
-use Rattle.promises.specs.Requests.{Muted, AsItWas, MutedStands, HeardCounts, MutedSamples}
+use Rattle.promises.specs.Requests.{AsItWas, MutedStands, HeardLearns, LearnedCounts, MutedSamples}
 
 -- ---- K5
 
@@ -41,10 +41,12 @@ not-so : (b : Bool) → (T b → ⊥) → b ≡ false
 not-so true h = absurd (h tt)
 not-so false h = refl
 
-pub heard-counts : HeardCounts
-heard-counts e far b a h small =
-    heard-block e far b a (not-so (eq (energyOf (b .near) (b .valid)) zero64) h)
-    ∙ count-is (e .state .mic .detector .«dtd_blocks») small
+pub heard-learns : HeardLearns
+heard-learns e far b a h = heard-block e far b a (not-so (eq (energyOf (b .near) (b .valid)) zero64) h)
+
+pub learned-counts : LearnedCounts
+unfolding learned
+learned-counts d c h = count-is (d .«dtd_blocks») h
 
 pub muted-samples : MutedSamples
 muted-samples near valid f = energy-zeros near valid (λ k i. f k i .fit)

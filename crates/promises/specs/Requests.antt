@@ -9,9 +9,12 @@ use lib.ListN.{getD}
 use lib.Ieee.{Float, nan, eq}
 use Rattle.numbers.specs.Zeros.{Zero, Fits}
 use Rattle.tau_state.specs.Constants.{zero64}
-use Rattle.tau_state.specs.Sums.{energyOf}
+use Rattle.tau_state.specs.Sums.{energyOf, crossOf}
 use Rattle.tau_state.specs.declared.state.Detector.{Detector}
+use Rattle.tau_detector.specs.Detector.{coherenceOf, learned}
+use Rattle.tau_spectra.specs.Ring.{ringOf}
 use Rattle.tau_spectra.specs.Far.{hearFar}
+use Rattle.tau_filter.specs.Filter.{shadowed}
 use Rattle.tau_block.specs.Block.{Block, Engine, runBlock}
 
 -- ---- K5. A muted microphone is no evidence
@@ -36,11 +39,19 @@ pub record AsItWas (before after : Detector) : Type 0 where
 abbrev pub MutedStands : Type 0
 MutedStands = (e : Engine) (far : List Float) (b : Block) → Muted b → AsItWas (e .state .mic .detector) (runBlock e far b .engine .state .mic .detector)
 
--- and no other far-active one: "the count goes up by 1, to 64 at most"
-abbrev pub HeardCounts : Type 0
-HeardCounts = (e : Engine) (far : List Float) (b : Block) → hearFar (e .state .partitions) (e .state .far) far (e .spectra) .active ≡ true
-    → (Muted b → ⊥) → e .state .mic .detector .«dtd_blocks» ≤ 64
-    → runBlock e far b .engine .state .mic .detector .«dtd_blocks» ≡ min (e .state .mic .detector .«dtd_blocks» + 1) 64
+-- And no other far-active one: from each of these the detector learns as document 01 has it, by the block's c, in which the estimate is step 2's.
+abbrev pub HeardLearns : Type 0
+HeardLearns = (e : Engine) (far : List Float) (b : Block)
+    → let s = e .state in
+    let heard = hearFar (s .partitions) (s .far) far (e .spectra) in
+    let ring = ringOf (s .partitions) (heard .far .head) (heard .spectra) in
+    let estimate = shadowed ring (b .near) (s .mic .paths) (s .mic .«divergence_resets») (e .shadow) .estimate in
+    let c = coherenceOf (crossOf (b .near) estimate (b .valid)) (energyOf (b .near) (b .valid)) (energyOf estimate (b .valid)) in
+    heard .active ≡ true → (Muted b → ⊥) → runBlock e far b .engine .state .mic .detector ≡ learned (s .mic .detector) c
+
+-- of which the count is this: "the count goes up by 1, to 64 at most"
+abbrev pub LearnedCounts : Type 0
+LearnedCounts = (d : Detector) (c : Float) → d .«dtd_blocks» ≤ 64 → learned d c .«dtd_blocks» ≡ min (d .«dtd_blocks» + 1) 64
 
 -- Sample by sample: the energy is 0 exactly where every valid sample is 0.0 or -0.0. One f32 that is neither, the least of them, an infinity
 -- or a NaN, is a sound.
