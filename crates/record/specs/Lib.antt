@@ -1,0 +1,5 @@
+pub mod Record
+pub mod Reading
+pub mod Writing
+pub mod Capture
+pub mod Promises
