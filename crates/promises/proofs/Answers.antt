@@ -1,6 +1,6 @@
 -- One lemma, and its instances. Assumes nothing.
 use mathlib.Core.Path.{_≡_, refl, sym, ap, _∙_}
-use Rattle.promises.specs.Answers.{One, Numbers, Tables, Complexes, Transforms, Rho, Tau, Hosts, Bytes, Lists}
+use Rattle.promises.specs.Answers.{One, Numbers, Tables, Complexes, Transforms, Rho, Tau, Hosts, Bytes, Records, Lists}
 
 -- two that equal d equal each other
 one : {A : Type 0} (d : A) → One A (λ r. r ≡ d)
@@ -29,6 +29,9 @@ hosts e near far out = (one _, one _)
 
 pub bytes : Bytes
 bytes s out xs buf n e = (one _, one _, one _, one _, one _, one _, one _)
+
+pub records : Records
+records kind s out = (one _, one _, one _)
 
 pub lists : Lists
 lists a b text out = (one _, one _)

@@ -7,7 +7,7 @@ use prog.Routine.{Routine}
 use prog.Wp.{Heap}
 use ghost.Atoms.{Atoms}
 use contract.Monad.{Fun}
-use Rattle.promises.specs.Contracts.{Numbers, Tables, Complexes, Transforms, Rho, Tau, Hosts, Bytes, Lists}
+use Rattle.promises.specs.Contracts.{Numbers, Tables, Complexes, Transforms, Rho, Tau, Hosts, Bytes, Records, Lists}
 
 module _ {M : Type 1} (𝓤 : URA M) (H : Heap 𝓤) (A : Atoms 𝓤) (mem : Memory → SProp 𝓤) (run : Routine → Fun 𝓤) where
   pub numbers : Numbers 𝓤 H A mem run
@@ -33,6 +33,9 @@ module _ {M : Type 1} (𝓤 : URA M) (H : Heap 𝓤) (A : Atoms 𝓤) (mem : Mem
 
   pub bytes : Bytes 𝓤 H A mem run
   bytes = (refl, refl, refl, refl, refl, refl, refl)
+
+  pub records : Records 𝓤 H A mem run
+  records = (refl, refl, refl)
 
   pub lists : Lists 𝓤 H A mem run
   lists = (refl, refl)

@@ -29,6 +29,9 @@ use Rattle.capi.specs.Promises.{TauProcess, TauFlush}
 use Rattle.wire.specs.Promises.{WholePairs, ReadNear, ReadFar, KeepRest, WriteSamples}
 use Rattle.capture.specs.Feeds.{Fed}
 use Rattle.capture.specs.Promises.{Feed, Finish}
+use Rattle.record.specs.declared.reading.Found.{Found}
+use Rattle.record.specs.Writing as writing
+use Rattle.record.specs.Promises.{Read, Payload, Write}
 use Rattle.line_order.specs.Promises.{AtMost}
 use Rattle.manifest.specs.Sorted as sorted
 use Rattle.manifest.specs.Promises.{Sort}
@@ -120,6 +123,13 @@ Bytes = (s out : List ℕ) (xs buf : List Float) (n : ℕ) (e : Engine)
     × One (List ℕ) (WriteSamples xs out)
     × One Fed (λ c. Feed e s out (c .answer) (c .shadow) (c .output) (c .spectra) (c .bytes))
     × One Fed (λ c. Finish e out (c .answer) (c .shadow) (c .output) (c .spectra) (c .bytes))
+
+-- records: s and out are lists of bytes
+abbrev pub Records : Type 0
+Records = (kind : ℕ) (s out : List ℕ)
+    → One Found (Read s)
+    × One (List ℕ) (Payload s)
+    × One writing.Wrote (λ c. Write kind s out (record { refusal = c .refusal; written = c .written }) (c .out))
 
 -- the release list: a and b are lines, text and out lists of bytes
 abbrev pub Lists : Type 0

@@ -4,6 +4,7 @@ pub mod Demand2
 pub mod Demand3
 pub mod Clauses
 pub mod Requests
+pub mod Records
 pub mod Program
 pub mod Manifest
 pub mod Contracts

@@ -1,20 +1,26 @@
 -- A capture of records: bytes that are read record by record, as long as that goes. Definitions only.
+--     Fits r             a record that may be written
 --     bytesOf r          a record's bytes
 --     joinedOf rs        the bytes of records end to end
 --     captureOf s        what the bytes s hold: as many records as can be read, then the first refusal and its place. Nothing is refused
 --                        where the last record ends with the bytes, so none in an empty capture
 -- A record starts where the one before it ends, so the place of any record is the length of those before it.
+use mathlib.Core.Path.{_≡_}
+use mathlib.Core.Bool.{true}
 use mathlib.Core.List.{List, [], _∷_, _++_}
 use Prim.Native.Nat.{ℕ, zero, suc, _+_}
 use lib.Dec.{eqb}
 use lib.ListN.{length, drop}
 use Rattle.laws.specs.Choice.{pick}
-use Rattle.record.specs.Record.{recordOf}
+use Rattle.record.specs.Record.{fitsOf, recordOf}
 use Rattle.record.specs.Reading.{readOf, payloadOf}
 
 pub record Record : Type 0 where
   pub kind : ℕ
   pub payload : List ℕ
+
+abbrev pub Fits : Record → Type 0
+Fits r = fitsOf (r .kind) (length (r .payload)) ≡ true
 
 abbrev pub bytesOf : Record → List ℕ
 bytesOf r = recordOf (r .kind) (r .payload)
