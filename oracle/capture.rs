@@ -1,11 +1,12 @@
 //! The captures that the programs `aec` and `aec_three` run on, and what the Rust, completed by document 01 (oracle/rust,
 //! tau_reference.rs), makes of them with four partitions and suppression. `oracle/lists` has it write the files: capture WORD, where WORD
-//! is `long` or `three`, and then `pairs` or `samples`.
+//! is `long` or `three`, and then `stdin` or `stdout`.
 
 mod aspeyruni;
 #[allow(dead_code)] // the Rust's text, whole
 mod canceller;
 mod config;
+mod echo;
 mod error;
 #[allow(dead_code)]
 mod fft;
@@ -22,7 +23,7 @@ mod tau_lines;
 #[allow(dead_code)]
 mod tau_reference;
 
-use inputs::bits32;
+use echo::{add_echo, bytes, pairs};
 use kinds::*;
 use std::io::Write;
 use tau_reference::Continued;
@@ -33,8 +34,6 @@ type Capture = (Vec<f32>, Vec<f32>);
 const BLOCK: usize = 256;
 /// For so many pairs the far end is silent.
 const SILENT: usize = 6 * BLOCK + 100;
-/// The echo: so many samples later, and so loud.
-const ECHO: [(usize, f32); 3] = [(17, 0.5), (140, 0.25), (600, 0.125)];
 
 /// A hundred blocks and a remainder: a sound in the room over a silent far end, then the far end's echo over it.
 fn long() -> Capture {
@@ -42,28 +41,17 @@ fn long() -> Capture {
     let mut near = samples(0x9e37_79b9, QUARTER, count);
     let mut far = samples(0x7f4a_7c15, FULL, count);
     far[..SILENT].fill(0.0);
-    for (x, own) in near.iter_mut().enumerate().map(|(k, x)| (x, k)) {
-        // its own sound stops for a while, so that the echo is heard alone
-        if own / BLOCK >= 10 && own / BLOCK < 90 {
-            *x *= 0.015625;
-        }
-        for (delay, gain) in ECHO {
-            if own >= delay {
-                *x += gain * far[own - delay];
-            }
-        }
-    }
+    // its own sound stops for a while, so that the echo is heard alone
+    near[10 * BLOCK..90 * BLOCK]
+        .iter_mut()
+        .for_each(|x| *x *= 0.015625);
+    add_echo(&mut near, &far);
     (near, far)
 }
 
 /// Document 01's case.
 fn three() -> Capture {
     (vec![1.0, -0.0, f32::NAN], vec![0.0; 3])
-}
-
-/// A NaN as 7FC00000.
-fn bytes(samples: impl Iterator<Item = f32>) -> Vec<u8> {
-    samples.flat_map(|x| bits32(x).to_le_bytes()).collect()
 }
 
 fn main() {
@@ -74,16 +62,19 @@ fn main() {
         other => panic!("no capture {other}"),
     };
     let written = match words[1].as_str() {
-        "pairs" => bytes(near.iter().zip(&far).flat_map(|(x, y)| [*x, *y])),
-        "samples" => {
+        "stdin" => pairs(&near, &far),
+        "stdout" => {
             let mut engine = Continued::created(4, true);
             let mut out = engine.process(&near, &far);
             out.extend(engine.flush());
             let (transfers, resets, _) = engine.report();
-            eprintln!("{} samples, {transfers} transfers, {resets} resets", out.len());
+            eprintln!(
+                "{} samples, {transfers} transfers, {resets} resets",
+                out.len()
+            );
             bytes(out.into_iter())
         }
-        other => panic!("no file of {other}"),
+        other => panic!("no file {other}"),
     };
     std::io::stdout().write_all(&written).unwrap();
 }

@@ -42,6 +42,12 @@ impl Noise {
     }
 }
 
+/// Bytes, as `cases::noise8` makes them: of each word the lowest.
+pub fn noise8(seed: u64, count: usize) -> Vec<u8> {
+    let words = std::iter::successors(Some(turned(seed)), |word| Some(turned(*word)));
+    words.map(|word| word as u8).take(count).collect()
+}
+
 /// Words for whatever is chosen at random, the same at each run.
 pub struct Random(pub u64);
 
@@ -113,7 +119,7 @@ pub fn bits32(x: f32) -> u32 {
     }
 }
 
-/// As `cases::hash_of` and `cases::hash_of32` have it.
+/// As `cases::hash_of`, `cases::hash_of32` and `cases::hash_of8` have it.
 pub fn hash(numbers: &[f64]) -> u64 {
     numbers.iter().fold(HASH, |h, x| turned(h ^ bits(*x)))
 }
@@ -122,6 +128,11 @@ pub fn hash32(samples: &[f32]) -> u64 {
     samples
         .iter()
         .fold(HASH, |h, x| turned(h ^ u64::from(bits32(*x))))
+}
+
+pub fn hash8(bytes: &[u8]) -> u64 {
+    let start = turned(HASH ^ bytes.len() as u64);
+    bytes.iter().fold(start, |h, b| turned(h ^ u64::from(*b)))
 }
 
 const HASH: u64 = 0x9e37_79b9_7f4a_7c15;

@@ -23,6 +23,19 @@ pub fn hash_of32(buffer: &[f32]) -> u64 {
     word
 }
 
+// The same of bytes. Their number goes in before them.
+pub fn hash_of8(buffer: &[u8]) -> u64 {
+    let mut word = turned(START ^ buffer.len() as u64);
+    for i in 0..buffer.len() {
+        word = turned(word ^ wide8(buffer[i]));
+    }
+    word
+}
+
 fn wide(bits: u32) -> u64 {
     bits as u64
+}
+
+fn wide8(b: u8) -> u64 {
+    b as u64
 }

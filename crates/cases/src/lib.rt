@@ -14,12 +14,14 @@ mod source;
 mod tally;
 
 pub use hash::hash_of;
+pub use hash::hash_of8;
 pub use hash::hash_of32;
 pub use line::field;
 pub use line::is_case;
 pub use made::high;
 pub use made::low;
 pub use made::noise;
+pub use made::noise8;
 pub use made::noise32;
 pub use source::Source;
 pub use source::fill;

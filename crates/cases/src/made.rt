@@ -20,6 +20,15 @@ pub fn noise32(seed: u64, base: u32, mask: u32, out: &mut [f32]) {
     }
 }
 
+// Bytes: of each word the lowest.
+pub fn noise8(seed: u64, out: &mut [u8]) {
+    let mut word = seed;
+    for i in 0..out.len() {
+        word = turned(word);
+        out[i] = (word % 256) as u8;
+    }
+}
+
 // The word after this one, by Marsaglia's xorshift. All words but 0 lie on one ring, and 0 stays.
 pub fn turned(word: u64) -> u64 {
     let a = word ^ (word << 13);
