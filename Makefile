@@ -64,8 +64,10 @@ $(stage)/.installed: build/libaspeyruni.a build/$(so) include/aspeyruni.h aspeyr
 	@$(MAKE) -s install DESTDIR= PREFIX=$(stage) INCLUDEDIR=$(stage)/include LIBDIR=$(stage)/lib DOCDIR=$(stage)/doc whole=echo
 	@touch $@
 
-# One C program over the shared library, one over the archive, the frames' host, and one in Rust where there is rustc for this processor.
-examples: build/examples/echo_shared build/examples/echo_static build/examples/frames build/examples/echo_rs
+# One C program over the shared library, one over the archive, the frames' host, the one that records its calls with its reader, and one in
+# Rust where there is rustc for this processor.
+examples: build/examples/echo_shared build/examples/echo_static build/examples/frames build/examples/box build/examples/unbox \
+	build/examples/echo_rs
 
 build/examples/echo_shared: examples/echo.c $(stage)/.installed
 	@mkdir -p $(@D)
@@ -78,6 +80,10 @@ build/examples/echo_static: examples/echo.c $(stage)/.installed
 build/examples/frames: examples/frames.c $(stage)/.installed
 	@mkdir -p $(@D)
 	$(c_example) $(stage)/lib/libaspeyruni.a -lm
+
+build/examples/box build/examples/unbox: build/examples/%: examples/%.c $(stage)/.installed
+	@mkdir -p $(@D)
+	$(c_example) $(stage)/lib/libaspeyruni.a
 
 build/examples/echo_rs: examples/echo.rs include/aspeyruni.rs $(stage)/.installed
 	@mkdir -p $(@D)

@@ -2,7 +2,8 @@
  * docs/PROMISES.md says what each promises. Link libaspeyruni, which `make` builds.
  *
  * A buffer is a pointer and how many numbers it has. A state is passed by value, and comes back in the answer; any state may be passed,
- * and a bad one is refused. For an answer that is a struct the caller gives the place, before all else.
+ * and a bad one is refused. For an answer that is a struct the caller gives the place, before all else. The one exception is what
+ * aspeyruni_record_write answers: those 16 bytes come back by value, which is in two registers on x86-64 as on Arm.
  * Two states are the same where their fields are: the bytes between fields hold anything, so memcmp may not be asked.
  *
  * What a caller has to see to, since no refusal tells of it:
@@ -40,7 +41,7 @@ extern "C" {
 #endif
 
 /* The field `refusal` of every answer. A refused call delivers nothing, gives back the state as it was (a refused create: all zero), and
- * writes nothing else. */
+ * writes nothing else. 1 to 6 are the engines', 7 to 9 those of records, whose writer gives 5 too. */
 enum aspeyruni_refusal {
     ASPEYRUNI_ACCEPTED = 0,
     ASPEYRUNI_REFUSED_SETTING = 1, /* create: a setting outside its range */
@@ -48,7 +49,10 @@ enum aspeyruni_refusal {
     ASPEYRUNI_REFUSED_LENGTHS = 3, /* near and far of different lengths */
     ASPEYRUNI_REFUSED_PAIRS = 4,   /* more than ASPEYRUNI_MAX_PAIRS in one call */
     ASPEYRUNI_REFUSED_ROOM = 5,    /* an output buffer shorter than this call would deliver */
-    ASPEYRUNI_REFUSED_STATE = 6    /* a state with a number outside its range */
+    ASPEYRUNI_REFUSED_STATE = 6,   /* a state with a number outside its range */
+    ASPEYRUNI_REFUSED_MARK = 7,    /* bytes that do not begin with a record's mark */
+    ASPEYRUNI_REFUSED_HEADER = 8,  /* an unknown kind, a payload too long or not of the kind's length, a fourth byte that is not zero */
+    ASPEYRUNI_REFUSED_SHORT = 9    /* fewer bytes than a header has, or than the header says */
 };
 
 /* ---- numbers and the transform */
@@ -239,6 +243,53 @@ void aspeyruni_rho_flush(struct aspeyruni_rho_answer *answer, struct aspeyruni_r
 
 void aspeyruni_rho_reset(struct aspeyruni_rho_started *answer, struct aspeyruni_rho state, float *weights, size_t weights_len,
                          float *history, size_t history_len);
+
+/* ---- records: what went into an engine's calls and what came out, with each flush and each reset at its place
+ *
+ * A capture of records is bytes, record behind record. A record is a header and a payload, and the header is the mark EC 0E, the kind, a
+ * zero byte, and the payload's length, least byte first. These two calls have no state and open no file; examples/box.c is a host that
+ * records its own calls.
+ *
+ * - Bytes stay bytes: a payload comes back as it went in, a NaN with the bits that it had. Samples in it are f32s with the least byte
+ *   first, which on a machine of that order is how they lie in memory.
+ * - A record holds at most 512 pairs or 1,024 samples, where one call of an engine takes 4,096 pairs.
+ * - A read looks at the first record only. That is the first `size` of the bytes given; the next begins behind them, and nothing there is
+ *   looked at.
+ * - No bytes at all are refused too, as ASPEYRUNI_REFUSED_SHORT. A capture ends where none are left, so ask that before each read.
+ * - The output may not overlap the payload, so a payload is not turned into a record where it stands. */
+#define ASPEYRUNI_RECORD_HEADER 6
+#define ASPEYRUNI_RECORD_MAX_PAYLOAD 4096
+#define ASPEYRUNI_RECORD_MAX (ASPEYRUNI_RECORD_HEADER + ASPEYRUNI_RECORD_MAX_PAYLOAD) /* room that always suffices */
+
+enum aspeyruni_record_kind {
+    ASPEYRUNI_RECORD_PAIRS = 1,  /* near then far: 8 bytes a pair, or none at all */
+    ASPEYRUNI_RECORD_OUTPUT = 2, /* samples that a call delivered: 4 bytes each, or none at all */
+    ASPEYRUNI_RECORD_FLUSH = 3,  /* empty */
+    ASPEYRUNI_RECORD_RESET = 4   /* empty */
+};
+
+/* The payload is the `payload_len` bytes from bytes + payload_at on. All but the refusal is 0 where there is one; the payload of a flush
+ * or a reset that is accepted has a length of 0 too. */
+struct aspeyruni_record_found {
+    uint32_t refusal;
+    uint32_t kind;
+    size_t size;
+    size_t payload_at;
+    size_t payload_len;
+};
+
+struct aspeyruni_record_written {
+    uint32_t refusal;
+    size_t written;
+};
+
+/* Refuses ASPEYRUNI_REFUSED_SHORT for fewer than six bytes, then MARK, then HEADER, and then SHORT for a payload that is not all there. */
+void aspeyruni_record_read(struct aspeyruni_record_found *answer, const uint8_t *bytes, size_t bytes_len);
+
+/* Writes a record to the first `written` places of `out`, the header's and the payload's. The others stay as they were, and so do all
+ * where it is refused: HEADER, then ROOM. A payload of no bytes may be NULL. */
+struct aspeyruni_record_written aspeyruni_record_write(uint32_t kind, const uint8_t *payload, size_t payload_len, uint8_t *out,
+                                                       size_t out_len);
 
 #ifdef __cplusplus
 }

@@ -4,7 +4,8 @@
 //!
 //! A buffer is a slice, which the library is passed as a pointer and a length. A state is passed by value, and comes back in the answer;
 //! any state may be passed, and a bad one is refused. For an answer that is a struct the library is given the place, before all else:
-//! x86-64 passes an answer of this size so, and the library, which is written for x86-64, does it on every processor (bin/library).
+//! x86-64 passes an answer of this size so, and the library, which is written for x86-64, does it on every processor (bin/library). The
+//! one exception is `RecordWritten`: its 16 bytes come back by value, in two registers, as C has it on x86-64 and on Arm.
 //! Two states are the same where their fields are: the bytes between fields hold anything, and may not be compared.
 //!
 //! What a caller has to see to, since neither the compiler nor a refusal tells of it:
@@ -33,7 +34,7 @@ pub const VERSION_PATCH: u32 = 0;
 pub const MAX_PAIRS: usize = 4096;
 
 /// What the transforms answer, and the field `refusal` of every other answer. A refused call delivers nothing, gives back the state as it
-/// was (a refused create: all zero), and writes nothing else.
+/// was (a refused create: all zero), and writes nothing else. 1 to 6 are the engines', 7 to 9 those of records, whose writer gives 5 too.
 pub mod refusal {
     pub const ACCEPTED: u32 = 0;
     /// Create: a setting outside its range.
@@ -48,6 +49,12 @@ pub mod refusal {
     pub const ROOM: u32 = 5;
     /// A state with a number outside its range.
     pub const STATE: u32 = 6;
+    /// Bytes that do not begin with a record's mark.
+    pub const MARK: u32 = 7;
+    /// An unknown kind, a payload that is too long or has not the kind's length, or a fourth byte that is not zero.
+    pub const HEADER: u32 = 8;
+    /// Fewer bytes than a header has, or than the header says.
+    pub const SHORT: u32 = 9;
 }
 
 /// What the library answers, in the place that it is given for it before all else. After that come the settings or the state, and then
@@ -495,4 +502,70 @@ pub mod rho {
     pub fn reset(state: RhoCanceller, weights: &mut [f32], history: &mut [f32]) -> Started {
         answer!(aspeyruni_rho_reset(state) lent(weights, history))
     }
+}
+
+// ---- records: what went into an engine's calls and what came out, with each flush and each reset at its place
+
+/// The bytes of a record's header: the mark EC 0E, the kind, a zero byte, and the payload's length, least byte first.
+pub const RECORD_HEADER: usize = 6;
+/// So a record holds at most 512 pairs or 1,024 samples, where one call of an engine takes `MAX_PAIRS`.
+pub const RECORD_MAX_PAYLOAD: usize = 4096;
+/// Room that always suffices.
+pub const RECORD_MAX: usize = RECORD_HEADER + RECORD_MAX_PAYLOAD;
+
+/// What a record is of. Samples in its payload are f32s, the least byte first.
+pub mod record_kind {
+    /// Near then far: 8 bytes a pair, or none at all.
+    pub const PAIRS: u32 = 1;
+    /// Samples that a call delivered: 4 bytes each, or none at all.
+    pub const OUTPUT: u32 = 2;
+    /// Empty.
+    pub const FLUSH: u32 = 3;
+    /// Empty.
+    pub const RESET: u32 = 4;
+}
+
+/// The record is the first `size` of the bytes, and its payload the `payload_len` from `payload_at` on. All but the refusal is 0 where
+/// there is one; the payload of a flush or a reset that is accepted has a length of 0 too.
+#[repr(C)]
+#[derive(Clone, Copy, Debug, Default, PartialEq, Eq)]
+pub struct RecordRead {
+    pub refusal: u32,
+    pub kind: u32,
+    pub size: usize,
+    pub payload_at: usize,
+    pub payload_len: usize,
+}
+
+#[repr(C)]
+#[derive(Clone, Copy, Debug, Default, PartialEq, Eq)]
+pub struct RecordWritten {
+    pub refusal: u32,
+    pub written: usize,
+}
+
+unsafe extern "C" {
+    fn aspeyruni_record_read(answer: *mut RecordRead, bytes: *const u8, bytes_len: usize);
+    fn aspeyruni_record_write(
+        kind: u32,
+        payload: *const u8,
+        payload_len: usize,
+        out: *mut u8,
+        out_len: usize,
+    ) -> RecordWritten;
+}
+
+/// The record that the bytes begin with. What lies behind it is not looked at: there the next one of a capture begins. It refuses `SHORT`
+/// for fewer than six bytes, then `MARK`, then `HEADER`, and then `SHORT` for a payload that is not all there.
+///
+/// No bytes at all are `SHORT` too. A capture ends where none are left, so ask that before each read.
+pub fn record_read(bytes: &[u8]) -> RecordRead {
+    answer!(aspeyruni_record_read() read(bytes))
+}
+
+/// Writes a record to the first `written` places of `out`, the header's and the payload's. The others stay as they were, and so do all
+/// where it is refused: `HEADER`, then `ROOM`. Bytes stay bytes: a payload comes back as it went in, a NaN with the bits that it had.
+pub fn record_write(kind: u32, payload: &[u8], out: &mut [u8]) -> RecordWritten {
+    let (to, to_len) = (out.as_mut_ptr(), out.len());
+    unsafe { aspeyruni_record_write(kind, payload.as_ptr(), payload.len(), to, to_len) }
 }

@@ -1,6 +1,7 @@
 #![doc = include_str!("../README.md")]
 #![warn(missing_docs)]
 
+pub mod record;
 mod refusal;
 mod rho;
 mod tau;

@@ -14,10 +14,17 @@ pub enum Refusal {
     Lengths = 3,
     /// There are more than [`MAX_PAIRS`](crate::MAX_PAIRS) pairs in one call.
     Pairs = 4,
-    /// The output buffer is shorter than what the call would deliver.
+    /// The output buffer is shorter than what the call would deliver, or than the record.
     Room = 5,
     /// A state has a number outside its range.
     State = 6,
+    /// The bytes do not begin with a record's mark.
+    Mark = 7,
+    /// A record of an unknown kind, with a payload that is too long or has not a length of its kind, or with a fourth byte that is not
+    /// zero.
+    Header = 8,
+    /// Fewer bytes than a record's header has, or than the header says.
+    Short = 9,
 }
 
 impl Refusal {
@@ -37,6 +44,9 @@ impl fmt::Display for Refusal {
             Refusal::Pairs => "there are more than 4,096 pairs in one call",
             Refusal::Room => "the output buffer is shorter than what the call would deliver",
             Refusal::State => "the state has a number outside its range",
+            Refusal::Mark => "the bytes do not begin with a record's mark",
+            Refusal::Header => "no record has such a header",
+            Refusal::Short => "there are fewer bytes than the record has",
         })
     }
 }
@@ -53,6 +63,9 @@ pub(crate) fn accepted(number: u32) -> Result<(), Refusal> {
         4 => Refusal::Pairs,
         5 => Refusal::Room,
         6 => Refusal::State,
+        7 => Refusal::Mark,
+        8 => Refusal::Header,
+        9 => Refusal::Short,
         _ => unreachable!("the library has no refusal {number}"),
     })
 }

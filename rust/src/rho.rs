@@ -6,7 +6,7 @@ use std::fmt;
 
 /// The simple engine. It delivers a sample for each pair at once, and models echo of up to as many samples as it has taps.
 ///
-/// It owns its state and its two buffers, so of the six refusals `process` gives 3, 4 and 5, and `flush` and `reset` none. What it can
+/// It owns its state and its two buffers, so of refusals 1 to 6 `process` gives 3, 4 and 5, and `flush` and `reset` none. What it can
 /// cancel stands at [`raw::rho`](crate::raw::rho).
 #[derive(Clone)]
 pub struct Rho {

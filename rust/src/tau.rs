@@ -6,7 +6,7 @@ use std::fmt;
 
 /// The block engine. It delivers 256 samples whenever 256 pairs are together, and models echo of up to 256 samples for each partition.
 ///
-/// It owns its state and its three buffers, so of the six refusals `process` gives 3, 4 and 5, `flush` gives 5 and `reset` none. What it
+/// It owns its state and its three buffers, so of refusals 1 to 6 `process` gives 3, 4 and 5, `flush` gives 5 and `reset` none. What it
 /// can cancel, and what stack a call takes, stands at [`raw`](crate::raw) and [`raw::tau`](crate::raw::tau).
 #[derive(Clone)]
 pub struct Tau {

@@ -1,5 +1,5 @@
-//! The six refusals through the owners: each where it can occur, and a call that is refused changes nothing, neither the engine nor the
-//! output buffer.
+//! The engines' six refusals through the owners: each where it can occur, and a call that is refused changes nothing, neither the engine
+//! nor the output buffer. Those of records are in records.rs.
 
 use aspeyruni::raw::tau::NUMBERS;
 use aspeyruni::{Refusal, Rho, RhoReport, Tau, MAX_PAIRS};
@@ -228,11 +228,14 @@ fn a_refusal_has_its_number_and_its_sentence() {
         Refusal::Pairs,
         Refusal::Room,
         Refusal::State,
+        Refusal::Mark,
+        Refusal::Header,
+        Refusal::Short,
     ];
-    assert_eq!(all.map(Refusal::number), [1, 2, 3, 4, 5, 6]);
+    assert_eq!(all.map(Refusal::number), [1, 2, 3, 4, 5, 6, 7, 8, 9]);
     let mut sentences = all.map(|refusal| refusal.to_string()).to_vec();
     assert!(sentences.iter().all(|sentence| sentence.contains(' ')));
     sentences.sort();
     sentences.dedup();
-    assert_eq!(sentences.len(), 6);
+    assert_eq!(sentences.len(), all.len());
 }

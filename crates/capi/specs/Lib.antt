@@ -1,2 +1,3 @@
 pub mod Tau
+pub mod Record
 pub mod Promises

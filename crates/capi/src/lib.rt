@@ -1,7 +1,10 @@
 // The host library: what C and Rust programs call. Each function hands its arguments to the proved one below it, and its promise is
 // that function's own, so there is nothing to believe here but the names.
+mod record_calls;
 mod tau_calls;
 
+pub use record_calls::aspeyruni_record_read;
+pub use record_calls::aspeyruni_record_write;
 use rho::Answer;
 use rho::Started;
 use rho_state::state::RhoCanceller;

@@ -25,7 +25,7 @@ pub tau : Tau
 tau parts flag shadow output spectra e near far out = (one _, one _, one _, one _)
 
 pub hosts : Hosts
-hosts e near far out = (one _, one _)
+hosts e near far out bytes = (one _, one _, one _)
 
 pub bytes : Bytes
 bytes s out xs buf n e = (one _, one _, one _, one _, one _, one _, one _)

@@ -29,7 +29,7 @@ module _ {M : Type 1} (𝓤 : URA M) (H : Heap 𝓤) (A : Atoms 𝓤) (mem : Mem
   tau = (refl, refl, refl, refl)
 
   pub hosts : Hosts 𝓤 H A mem run
-  hosts = (refl, refl, refl, refl, refl, refl, refl, refl, refl, refl, refl, refl, refl, refl)
+  hosts = (refl, refl, refl, refl, refl, refl, refl, refl, refl, refl, refl, refl, refl, refl, refl, refl)
 
   pub bytes : Bytes 𝓤 H A mem run
   bytes = (refl, refl, refl, refl, refl, refl, refl)

@@ -17,8 +17,9 @@ use Rattle.record.specs.Capture.{Record, Capture, Fits, joinedOf, captureOf}
 use Rattle.record.proofs.Records.{nothingOf, unwrittenOf, read-refusal, read-yes, read-no, payload-yes, payload-no, write-refusal, write-yes, write-no}
 use Rattle.record.proofs.Records.{record-read, record-payload, payload-fits, payload-size, bytes-again}
 use Rattle.record.proofs.Captures.{capture-none, capture-joined, capture-parts}
+use Rattle.capi.proofs.Record.{payload-placed}
 use Rattle.promises.specs.Demand1.{firstOf, test}
-use Rattle.promises.specs.Records.{KindsFit, ReadRefuses, ReadGives, ReadRefused, WriteRefuses, WriteGives, WriteRefused, WrittenReads, ReadWrites, JoinedReads, JoinedAlone, CaptureReads}
+use Rattle.promises.specs.Records.{KindsFit, ReadRefuses, ReadGives, ReadRefused, PayloadPlaced, WriteRefuses, WriteGives, WriteRefused, WrittenReads, ReadWrites, JoinedReads, JoinedAlone, CaptureReads}
 
 never : (b : Bool) → (b && false) ≡ false
 never true = refl
@@ -59,6 +60,9 @@ pub read-refused : ReadRefused
 read-refused s h =
     let no : readRefusal s ≡ 0 → ⊥ = λ e. h (read-refusal s ∙ e) in
     (read-no s no ∙ ap nothingOf (sym (read-refusal s)), payload-no s no)
+
+pub placed : PayloadPlaced
+placed = payload-placed
 
 pub write-refuses : WriteRefuses
 unfolding firstOf writeRefusal

@@ -25,7 +25,8 @@ use Rattle.tau_frame.specs.Pairs.{Engine}
 use Rattle.tau.specs.Calls.{Begun, Called}
 use Rattle.tau.specs.Promises as tau
 use Rattle.capi.specs.Tau.{Hosted}
-use Rattle.capi.specs.Promises.{TauProcess, TauFlush}
+use Rattle.capi.specs.declared.record_calls.RecordRead as recordCalls
+use Rattle.capi.specs.Promises.{TauProcess, TauFlush, RecordRead}
 use Rattle.wire.specs.Promises.{WholePairs, ReadNear, ReadFar, KeepRest, WriteSamples}
 use Rattle.capture.specs.Feeds.{Fed}
 use Rattle.capture.specs.Promises.{Feed, Finish}
@@ -107,11 +108,12 @@ Tau = (parts : ℕ) (flag : Bool) (shadow output spectra : List Float) (e : Engi
     × One Called (λ c. tau.Flush e out (c .answer) (c .shadow) (c .output) (c .spectra) (c .out))
     × One Begun (λ c. tau.Reset e (c .answer) (c .shadow) (c .output) (c .spectra))
 
--- capi: the two calls whose answer is numbers; its other functions cite promises of the above
+-- capi: the calls that answer numbers where those below have an enum or a part; its other functions cite promises of these
 abbrev pub Hosts : Type 0
-Hosts = (e : Engine) (near far out : List Float)
+Hosts = (e : Engine) (near far out : List Float) (bytes : List ℕ)
     → One Hosted (λ c. TauProcess e near far out (c .answer) (c .shadow) (c .output) (c .spectra) (c .out))
     × One Hosted (λ c. TauFlush e out (c .answer) (c .shadow) (c .output) (c .spectra) (c .out))
+    × One recordCalls.RecordRead (RecordRead bytes)
 
 -- bytes: s and out are lists of bytes, xs and buf of samples, n a count
 abbrev pub Bytes : Type 0

@@ -41,7 +41,7 @@ use Rattle.tau_state.specs.declared.state.TauCanceller.{TauCanceller}
 use Rattle.tau_frame.specs.Pairs.{Engine}
 use Rattle.tau.specs.Promises as tauPromises
 use Rattle.capi.proofs as capi
-use Rattle.capi.specs.Promises.{TauProcess, TauFlush}
+use Rattle.capi.specs.Promises.{TauProcess, TauFlush, RecordRead}
 use Rattle.wire.proofs as wire
 use Rattle.wire.specs.Promises.{WholePairs, ReadNear, ReadFar, KeepRest, WriteSamples}
 use Rattle.capture.proofs as capture
@@ -186,6 +186,8 @@ module _ {M : Type 1} (𝓤 : URA M) (H : Heap 𝓤) (A : Atoms 𝓤) (mem : Mem
       × Says capi.«aspeyruni_tau_flush».ended (capi.«aspeyruni_tau_flush».clauses 𝓤 H A mem run)
       (λ _ (s, (sh, (ou, (xs, (out, _))))) r (_, (sh', (ou', (xs', (out', _))))). TauFlush (tauOf s sh ou xs) (now out) r (now sh') (now ou') (now xs') (now out'))
       × (capi.«aspeyruni_tau_reset».clauses 𝓤 H A mem run ≡ tau.reset.clauses 𝓤 H A mem run)
+      × Says capi.«aspeyruni_record_read».ended (capi.«aspeyruni_record_read».clauses 𝓤 H A mem run) (λ _ (bytes, _) r _. RecordRead (now bytes) r)
+      × (capi.«aspeyruni_record_write».clauses 𝓤 H A mem run ≡ records.write.clauses 𝓤 H A mem run)
 
   -- wire, capture
   abbrev pub Bytes : Type 2

@@ -12,6 +12,7 @@ use Rattle.record.specs.Record.{Byte, fitsOf, recordOf}
 use Rattle.record.specs.Reading.{readOf, payloadOf}
 use Rattle.record.specs.Writing.{Wrote, writeOf}
 use Rattle.record.specs.Capture.{Record, Fits, Capture, joinedOf, captureOf}
+use Rattle.capi.specs.Record.{recordReadOf}
 use Rattle.promises.specs.Demand1.{firstOf, test}
 
 -- ---- what fits: "Kind 1 holds pairs (8 bytes each), 2 output samples (4 each), 3 flush and 4 reset (both empty)", "at most 4,096"
@@ -51,6 +52,10 @@ ReadGives = (s : List ℕ) → readOf s .refusal ≡ 0
 abbrev pub ReadRefused : Type 0
 ReadRefused = (s : List ℕ) → (readOf s .refusal ≡ 0 → ⊥)
     → (readOf s ≡ record { refusal = readOf s .refusal; kind = 0; size = 0 }) × (payloadOf s ≡ [])
+
+-- where a host finds it: a part does not cross to C, and a place and a length stand for it
+abbrev pub PayloadPlaced : Type 0
+PayloadPlaced = (s : List ℕ) → payloadOf s ≡ take (recordReadOf s .«payload_len») (drop (recordReadOf s .«payload_at») s)
 
 -- ---- writing
 

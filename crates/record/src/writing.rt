@@ -8,6 +8,7 @@ ghost use Rattle.record.specs.Writing.{writeRefusal, putOf};
 ghost use Rattle.record.specs.Promises as promises;
 
 // How many bytes of the buffer the record takes up.
+#[repr(C)]
 pub struct Written {
     pub refusal: u32,
     pub written: usize,

@@ -2,6 +2,9 @@
 //! and besides through an owner, which goes on from line to line, beginning anew where a line sets the state or a buffer. A line that lends
 //! buffers of other lengths, or has a state out of its ranges, no owner can take: there `from_parts` has to refuse them, as the line's call
 //! is refused.
+//!
+//! The list of records has its answers from the request's text. Its lines go through `raw` and through the module `record`, which has no
+//! call for a kind that is unknown.
 
 #[path = "../../../oracle/inputs.rs"]
 mod inputs;
@@ -10,6 +13,7 @@ mod kinds;
 mod line;
 #[path = "../../../oracle/recipe.rs"]
 mod recipe;
+mod record;
 mod rho;
 mod tau;
 #[path = "../../../oracle/tau_lines.rs"]
