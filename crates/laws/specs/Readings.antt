@@ -7,7 +7,7 @@
 --     over-fill, over-copy, over-map, over-mapped     all of a list: a constant, another list, f of each, f of each of another
 --     over-table, over2-table              all of a list, by place; what it held before is not mentioned
 --     over-front, over-filled, over-copied, over-placed     the first n places, and the rest as it was
---     overAt-back, overAt-copied, overAt-padded       from place b on, and what lies before as it was
+--     overAt-back, overAt-copied, overAt-pasted, overAt-padded       from place b on, and what lies before as it was
 --     slide                                a window's second half moved to the front and a block put behind it
 --     over-dropped                         all of a list: what lies from a place on in another
 -- Assumes nothing.
@@ -18,9 +18,9 @@ use Prim.Native.Nat.{ℕ, zero, suc, _+_, _-_, _*_, _≤_, _<_, min}
 use native.Mathlib.Nat.{not-suc-le-zero, le-of-suc-le-suc, le-refl, add-sub-cancel, add-sub-cancel-left, suc-inj, add-zero, zero-add, add-suc, suc-add, le-of-lt, min-eq-left, min-eq-right}
 use native.Mathlib.Omega.{arith}
 use lib.ListN.{length, getD, take, drop, replicate, length-drop}
-use lib.Seq.{getD-drop, drop-drop, length-take-le}
+use lib.Seq.{getD-drop, drop-drop, length-take-le, take-length}
 use Rattle.laws.specs.Choice.{lt-or-ge}
-use Rattle.laws.specs.Loops.{iter, over, overAt, over2, over-end, over-whole, length-over}
+use Rattle.laws.specs.Loops.{iter, over, overAt, over2, over-end, over-whole, overAt-end, length-over}
 use Rattle.laws.specs.Tables.{table, table2}
 
 -- one turn taken off the front
@@ -130,6 +130,14 @@ module _ {A : Type 0} where
     where
       room : length (drop b d) ≡ length d - b → n ≤ length (drop b d)
       room e = omega arith
+
+  -- a loop that has put all of s from place b on
+  pub overAt-pasted : (z : A) (b k : ℕ) (s d : List A) {x : List A} → x ≡ overAt b k (λ j y. getD s j z) d → k ≤ length s → length s ≤ k
+      → b + length s ≤ length d → x ≡ take b d ++ (s ++ drop (b + length s) d)
+  overAt-pasted z b k s d e l g h =
+      overAt-end b (λ j y. getD s j z) d k (length s) e l g
+      ∙ overAt-copied z b (length s) s d (le-refl (length s)) h
+      ∙ ap (λ (t : List A). take b d ++ (t ++ drop (b + length s) d)) (take-length s)
 
   -- a list of b + n places padded from b on
   pub overAt-padded : (v : A) (b n : ℕ) (d : List A) → length d ≡ b + n → overAt b n (λ k x. v) d ≡ take b d ++ replicate n v

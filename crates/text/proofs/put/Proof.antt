@@ -5,25 +5,19 @@ use Prim.Native.Nat.{ℕ, _+_, _-_, _≤_}
 use native.Mathlib.Omega.{arith}
 use borrow.Author.Needs.{needs}
 use lib.ListN.{length, getD, take, drop, length-set, length-append}
-use lib.Seq.{take-at, take-length, length-take-le}
-use Rattle.laws.specs.Loops.{loops, overAt, overAt-next, overAt-end}
-use Rattle.laws.specs.Readings.{overAt-copied}
+use lib.Seq.{take-at, length-take-le}
+use Rattle.laws.specs.Loops.{loops, overAt, overAt-next}
+use Rattle.laws.specs.Readings.{overAt-pasted}
 use Rattle.text.proofs.put.Statement.{statement}
 use Rattle.text.proofs.put.Tie as tie
 
 front : (word d : List ℕ) (at k : ℕ) {b : List ℕ} → at + length word ≤ length d → b ≡ overAt at k (λ j x. getD word j 0) d
     → k ≤ length word → length word ≤ k → take (at + length word) b ≡ take at d ++ word
 front word d at k {b} h e l g =
-    let n = length word in
-    let whole : b ≡ take at d ++ (take n word ++ drop (at + n) d) =
-    overAt-end at (λ j x. getD word j 0) d k n e l g ∙ overAt-copied 0 at n word d (omega arith) h in
-    let long : length (take at d ++ take n word) ≡ at + n =
-    length-append (take at d) (take n word)
-    ∙ ap (λ (m : ℕ). m + length (take n word)) (length-take-le at d (omega arith))
-    ∙ ap (λ (w : List ℕ). at + length w) (take-length word) in
-    ap (take (at + n)) (whole ∙ sym (append-assoc (take at d) (take n word) (drop (at + n) d)))
-    ∙ take-at (take at d ++ take n word) (drop (at + n) d) (at + n) long
-    ∙ ap (λ (w : List ℕ). take at d ++ w) (take-length word)
+    let long : length (take at d ++ word) ≡ at + length word =
+    length-append (take at d) word ∙ ap (λ (m : ℕ). m + length word) (length-take-le at d (omega arith)) in
+    ap (take (at + length word)) (overAt-pasted 0 at k word d e l g h ∙ sym (append-assoc (take at d) word (drop (at + length word) d)))
+    ∙ take-at (take at d ++ word) (drop (at + length word) d) (at + length word) long
 
 abbrev Inv-loop : tie.InvT-loop
 Inv-loop word at out₀ k₀ out k =

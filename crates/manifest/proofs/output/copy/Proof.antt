@@ -1,23 +1,13 @@
 -- `manifest::output::copy` meets its contract: after k turns the first k bytes are copied. Assumes nothing.
-use mathlib.Core.Path.{_≡_, refl, ap, _∙_}
-use mathlib.Core.List.{List, _++_}
-use Prim.Native.Nat.{ℕ, _+_, _-_, _≤_}
+use mathlib.Core.Path.{_≡_, refl}
+use Prim.Native.Nat.{ℕ, _-_, _≤_}
 use native.Mathlib.Omega.{arith}
-use lib.ListN.{length, getD, take, drop, length-set}
-use lib.Seq.{take-length}
-use Rattle.laws.specs.Loops.{overAt, overAt-none, overAt-next, overAt-end}
-use Rattle.laws.specs.Readings.{overAt-copied}
-use Rattle.manifest.specs.Steps.{pastedOf}
+use lib.ListN.{length, getD, length-set}
+use Rattle.laws.specs.Loops.{overAt, overAt-none, overAt-next}
+use Rattle.laws.specs.Readings.{overAt-pasted}
 use borrow.Author.Needs.{needs}
 use Rattle.manifest.proofs.output.copy.Statement.{statement}
 use Rattle.manifest.proofs.output.copy.Tie as tie
-
-end : (bytes out : List ℕ) (at k : ℕ) {x : List ℕ} → x ≡ overAt at k (λ j y. getD bytes j 0) out → k ≤ length bytes → length bytes ≤ k
-    → at + length bytes ≤ length out → x ≡ pastedOf at bytes out
-end bytes out at k e h l r =
-    overAt-end at _ out k (length bytes) e h l
-    ∙ overAt-copied 0 at (length bytes) bytes out (omega arith) r
-    ∙ ap (λ (z : List ℕ). take at out ++ (z ++ drop (at + length bytes) out)) (take-length bytes)
 
 abbrev Inv-loop : tie.InvT-loop
 Inv-loop bytes at out₀ k₀ out k =
@@ -40,4 +30,4 @@ copy-spec =
     (λ c. search needs)
     (λ c. let at = c .before .loop in
     let s = c .before .before .args in
-    end (s .bytes .now) (s .out .now) (s .at) (at .k) (at .inv .2) (at .inv .1) (omega arith) (c .before .before .pre)))
+    overAt-pasted 0 (s .at) (at .k) (s .bytes .now) (s .out .now) (at .inv .2) (at .inv .1) (omega arith) (c .before .before .pre)))
