@@ -31,7 +31,7 @@ pub bytes : Bytes
 bytes s out xs buf n e = (one _, one _, one _, one _, one _, one _, one _)
 
 pub records : Records
-records kind s out = (one _, one _, one _)
+records kind s out e = (one _, one _, one _, one _, one _)
 
 pub lists : Lists
 lists a b text out = (one _, one _)

@@ -35,7 +35,7 @@ module _ {M : Type 1} (𝓤 : URA M) (H : Heap 𝓤) (A : Atoms 𝓤) (mem : Mem
   bytes = (refl, refl, refl, refl, refl, refl, refl)
 
   pub records : Records 𝓤 H A mem run
-  records = (refl, refl, refl)
+  records = (refl, refl, refl, refl, refl)
 
   pub lists : Lists 𝓤 H A mem run
   lists = (refl, refl)

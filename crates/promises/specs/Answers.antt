@@ -33,6 +33,8 @@ use Rattle.capture.specs.Promises.{Feed, Finish}
 use Rattle.record.specs.declared.reading.Found.{Found}
 use Rattle.record.specs.Writing as writing
 use Rattle.record.specs.Promises.{Read, Payload, Write}
+use Rattle.recorded.specs.Recorded.{Left}
+use Rattle.recorded.specs.Promises as recorded
 use Rattle.line_order.specs.Promises.{AtMost}
 use Rattle.manifest.specs.Sorted as sorted
 use Rattle.manifest.specs.Promises.{Sort}
@@ -126,12 +128,14 @@ Bytes = (s out : List ℕ) (xs buf : List Float) (n : ℕ) (e : Engine)
     × One Fed (λ c. Feed e s out (c .answer) (c .shadow) (c .output) (c .spectra) (c .bytes))
     × One Fed (λ c. Finish e out (c .answer) (c .shadow) (c .output) (c .spectra) (c .bytes))
 
--- records: s and out are lists of bytes
+-- record, recorded: s and out are lists of bytes
 abbrev pub Records : Type 0
-Records = (kind : ℕ) (s out : List ℕ)
+Records = (kind : ℕ) (s out : List ℕ) (e : Engine)
     → One Found (Read s)
     × One (List ℕ) (Payload s)
     × One writing.Wrote (λ c. Write kind s out (record { refusal = c .refusal; written = c .written }) (c .out))
+    × One Left (λ c. recorded.Feed e s out (c .answer) (c .shadow) (c .output) (c .spectra) (c .out))
+    × One Left (λ c. recorded.Finish e out (c .answer) (c .shadow) (c .output) (c .spectra) (c .out))
 
 -- the release list: a and b are lines, text and out lists of bytes
 abbrev pub Lists : Type 0

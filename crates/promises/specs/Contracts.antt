@@ -48,6 +48,8 @@ use Rattle.capture.proofs as capture
 use Rattle.capture.specs.Promises.{Feed, Finish}
 use Rattle.record.proofs as records
 use Rattle.record.specs.Promises.{Read, Payload, Write}
+use Rattle.recorded.proofs as recorded
+use Rattle.recorded.specs.Promises as recordedPromises
 use Rattle.line_order.proofs as lineOrder
 use Rattle.line_order.specs.Promises.{AtMost}
 use Rattle.manifest.proofs as manifest
@@ -206,13 +208,17 @@ module _ {M : Type 1} (𝓤 : URA M) (H : Heap 𝓤) (A : Atoms 𝓤) (mem : Mem
       × Says capture.finish.ended (capture.finish.clauses 𝓤 H A mem run)
       (λ _ (s, (sh, (ou, (xs, (bytes, _))))) r (_, (sh', (ou', (xs', (bytes', _))))). Finish (tauOf s sh ou xs) (now bytes) r (now sh') (now ou') (now xs') (now bytes'))
 
-  -- records; what is handed back is a part of the bytes
+  -- record, of which the payload is a part of the bytes; recorded
   abbrev pub Records : Type 2
   Records =
       Says records.read.ended (records.read.clauses 𝓤 H A mem run) (λ _ (bytes, _) r _. Read (now bytes) r)
       × Says records.payload.ended (records.payload.clauses 𝓤 H A mem run) (λ _ (bytes, _) r _. Payload (now bytes) (now r))
       × Says records.write.ended (records.write.clauses 𝓤 H A mem run)
       (λ _ (kind, (payload, (out, _))) r (_, (_, (out', _))). Write kind (now payload) (now out) r (now out'))
+      × Says recorded.feed.ended (recorded.feed.clauses 𝓤 H A mem run)
+      (λ _ (s, (sh, (ou, (xs, (pairs, (out, _)))))) r (_, (sh', (ou', (xs', (_, (out', _)))))). recordedPromises.Feed (tauOf s sh ou xs) (now pairs) (now out) r (now sh') (now ou') (now xs') (now out'))
+      × Says recorded.finish.ended (recorded.finish.clauses 𝓤 H A mem run)
+      (λ _ (s, (sh, (ou, (xs, (out, _))))) r (_, (sh', (ou', (xs', (out', _))))). recordedPromises.Finish (tauOf s sh ou xs) (now out) r (now sh') (now ou') (now xs') (now out'))
 
   -- the release list
   abbrev pub Lists : Type 2

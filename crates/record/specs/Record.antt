@@ -17,7 +17,11 @@ Byte b = b < 256
 unfoldable pub fitsOf : ℕ → ℕ → Bool
 fitsOf kind n =
     leb n 4096
-    && pick (eqb kind 1) (eqb (n % 8) 0) (pick (eqb kind 2) (eqb (n % 4) 0) (pick (eqb kind 3) (eqb n 0) (pick (eqb kind 4) (eqb n 0) false)))
+    && pick (eqb kind 1) (eqb (n % 8) 0)
+    (pick (eqb kind 2) (eqb (n % 4) 0)
+    (pick (eqb kind 3) (eqb n 0)
+    (pick (eqb kind 4) (eqb n 0)
+    false)))
 
 -- (EC is 236 and 0E is 14)
 abbrev pub headerOf : ℕ → ℕ → List ℕ

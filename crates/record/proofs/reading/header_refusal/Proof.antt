@@ -50,7 +50,11 @@ header-refusal-spec =
     (λ c κs. search needs)
     (λ c κs. search needs)
     (λ c κs. search needs)
-    (λ c. misfit (c .before .before .before .before .before .before .before .before .before .before .before .before .before .args .bytes .now) (search needs) (search needs) (search needs) (search needs)
-    (c .before .before .before .wide .ensures .0) (c .before .before .length-in .ensures) (c .before .fits2 .ensures) (not-true _ (c .if5 .taken)))
-    (λ c. good (c .before .before .before .before .before .before .before .before .before .before .before .before .before .args .bytes .now) (search needs) (search needs) (search needs) (search needs)
-    (c .before .before .before .wide .ensures .0) (c .before .before .length-in .ensures) (c .before .fits2 .ensures) (not-false _ (c .if5 .left))))
+    (λ c. let at-wide = c .before .before .before in
+    misfit (at-wide .before .before .before .before .before .before .before .before .before .before .args .bytes .now)
+    (search needs) (search needs) (search needs) (search needs)
+    (at-wide .wide .ensures .0) (c .before .before .length-in .ensures) (c .before .fits2 .ensures) (not-true _ (c .if5 .taken)))
+    (λ c. let at-wide = c .before .before .before in
+    good (at-wide .before .before .before .before .before .before .before .before .before .before .args .bytes .now)
+    (search needs) (search needs) (search needs) (search needs)
+    (at-wide .wide .ensures .0) (c .before .before .length-in .ensures) (c .before .fits2 .ensures) (not-false _ (c .if5 .left))))

@@ -55,17 +55,30 @@ write-spec =
     (λ c. let s = c .before .before .before .before .args in refused (s .kind) (s .payload .now) (s .out .now) (c .before .write-refusal .ensures) (c .if1 .taken))
     (λ c κs. let a = write-accepted _ _ _ (sym (c .before .write-refusal .ensures) ∙ c .if1 .left) in (fits-kind _ _ (a .0), fits-most _ _ (a .0)))
     (λ c. search needs)
-    (λ c κs. let s = c .before .before .before .before .before .before .before .args in
-    first-room (s .kind) (s .payload .now) (s .out .now) (c .before .before .before .before .write-refusal .ensures) (c .before .before .before .if1 .left) (c .before .before .header-of .ensures))
-    (λ c κs. let s = c .before .before .before .before .before .before .before .before .before .before .before .args in
-    second-room (s .kind) (s .payload .now) (s .out .now) (c .before .before .before .before .before .before .before .before .write-refusal .ensures) (c .before .before .before .before .before .before .before .if1 .left) (c .before .before .before .before .before .before .header-of .ensures) (c .before .before .before .put .ensures))
-    (λ c. let s = c .before .before .before .before .before .before .before .before .before .before .before .before .before .before .args in
-    let a = write-accepted _ _ _ (sym (c .before .before .before .before .before .before .before .before .before .before .before .write-refusal .ensures) ∙ c .before .before .before .before .before .before .before .before .before .before .if1 .left) in
+    (λ c κs. let at-header = c .before .before in
+    let at-refusal = at-header .before .before in
+    let s = at-refusal .before .before .before .args in
+    first-room (s .kind) (s .payload .now) (s .out .now) (at-refusal .write-refusal .ensures) (at-header .before .if1 .left) (at-header .header-of .ensures))
+    (λ c κs. let at-put = c .before .before .before in
+    let at-header = at-put .before .before .before in
+    let at-refusal = at-header .before .before in
+    let s = at-refusal .before .before .before .args in
+    second-room (s .kind) (s .payload .now) (s .out .now) (at-refusal .write-refusal .ensures) (at-header .before .if1 .left) (at-header .header-of .ensures)
+    (at-put .put .ensures))
+    (λ c. let at-put = c .before .before .before .before .before .before in
+    let at-header = at-put .before .before .before in
+    let at-refusal = at-header .before .before in
+    let s = at-refusal .before .before .before .args in
+    let a = write-accepted _ _ _ (sym (at-refusal .write-refusal .ensures) ∙ at-header .before .if1 .left) in
     let most = fits-most (s .kind) (length (s .payload .now)) (a .0) in
     omega arith)
     (λ c. search needs)
-    (λ c. let s = c .before .before .before .before .before .before .before .before .before .before .before .before .before .before .args in
-    let e = c .before .before .before .before .before .before .before .before .before .before .before .write-refusal .ensures in
-    let none = c .before .before .before .before .before .before .before .before .before .before .if1 .left in
+    (λ c. let at-put2 = c .before .before in
+    let at-put = at-put2 .before .before .before .before in
+    let at-header = at-put .before .before .before in
+    let at-refusal = at-header .before .before in
+    let s = at-refusal .before .before .before .args in
+    let e = at-refusal .write-refusal .ensures in
+    let none = at-header .before .if1 .left in
     wrote (s .kind) (s .payload .now) (s .out .now) e none
-    (after-both (s .kind) (s .payload .now) (s .out .now) e none (c .before .before .before .before .before .before .before .before .before .header-of .ensures) (c .before .before .before .before .before .before .put .ensures) (c .before .before .put2 .ensures))))
+    (after-both (s .kind) (s .payload .now) (s .out .now) e none (at-header .header-of .ensures) (at-put .put .ensures) (at-put2 .put2 .ensures))))

@@ -1,0 +1,20 @@
+// Writing.
+use libc::STDERR_FILENO;
+use libc::STDOUT_FILENO;
+ghost use Prim.Native.Nat.{_≤_};
+ghost use lib.ListN.{length};
+
+// Writes the first `count` bytes, and says whether it could.
+pub fn emit(bytes: &[u8], count: usize) -> bool
+    requires { ⌜ count ≤ length (now bytes) ⌝ }
+{
+    let is_written = io::write_all(STDOUT_FILENO, &bytes[..count]);
+    if !is_written {
+        complain(b"pack: a write failed\n");
+    }
+    is_written
+}
+
+pub fn complain(line: &[u8]) {
+    io::write_all(STDERR_FILENO, line);
+}

@@ -1,0 +1,3 @@
+pub mod Recorded
+pub mod Promises
+pub mod Program
