@@ -11,7 +11,6 @@ use input::fill;
 use output::emit;
 use tau_state::state::TauCanceller;
 ghost use mathlib.Core.Path.{_≡_};
-ghost use lib.ListN.{length};
 ghost use Rattle.recorded.specs.Program.{engineBy, blockOf, flushOf, buffersBy};
 
 // What a turn leaves to the next: whether to go on, and whether all that was to be written was.

@@ -1,24 +1,23 @@
 -- What is promised of records and captures, from the laws of crate record. Assumes nothing.
-use mathlib.Core.Path.{_≡_, refl, sym, ap, subst, _∙_}
+use mathlib.Core.Path.{_≡_, refl, sym, ap, _∙_}
 use mathlib.Core.Bool.{Bool, true, false, _&&_}
 use mathlib.Core.List.{List, [], _++_, append-nil}
-use Prim.Native.Nat.{ℕ, _+_, _≤_, _<_}
+use Prim.Native.Nat.{ℕ, _+_}
 use native.Mathlib.Nat.{add-zero}
 use native.Mathlib.Omega.{arith}
-use borrow.Author.Tests.{eq-eqb, ne-eqb, le-leb}
+use borrow.Author.Tests.{ne-eqb}
 use lib.Dec.{eqb, leb}
-use lib.ListN.{length, take, drop}
-use Rattle.laws.specs.Choice.{pick, pick-yes, pick-no}
-use Rattle.laws.specs.Kinds.{All}
-use Rattle.record.specs.Record.{fitsOf, recordOf}
-use Rattle.record.specs.Reading.{lengthIn, headerRefusal, readRefusal, readOf, payloadOf}
-use Rattle.record.specs.Writing.{Wrote, writeRefusal, writeOf}
-use Rattle.record.specs.Capture.{Record, Capture, Fits, joinedOf, captureOf}
-use Rattle.record.proofs.Records.{nothingOf, unwrittenOf, read-refusal, read-yes, read-no, payload-yes, payload-no, write-refusal, write-yes, write-no}
+use lib.ListN.{length, drop}
+use Rattle.laws.specs.Choice.{pick}
+use Rattle.record.specs.Record.{fitsOf}
+use Rattle.record.specs.Reading.{headerRefusal, readRefusal, readOf, payloadOf}
+use Rattle.record.specs.Writing.{writeRefusal}
+use Rattle.record.specs.Capture.{Record, Capture, joinedOf, captureOf}
+use Rattle.record.proofs.Records.{nothingOf, unwrittenOf, read-refusal, read-yes, read-no, payload-yes, payload-no, write-refusal, write-yes, write-fits, write-no}
 use Rattle.record.proofs.Records.{record-read, record-payload, payload-fits, payload-size, bytes-again}
 use Rattle.record.proofs.Captures.{capture-none, capture-joined, capture-parts}
 use Rattle.capi.proofs.Record.{payload-placed}
-use Rattle.promises.specs.Demand1.{firstOf, test}
+use Rattle.promises.specs.Demand1.{firstOf}
 use Rattle.promises.specs.Records.{KindsFit, ReadRefuses, ReadGives, ReadRefused, PayloadPlaced, WriteRefuses, WriteGives, WriteRefused, WrittenReads, ReadWrites, JoinedReads, JoinedAlone, CaptureReads}
 
 never : (b : Bool) → (b && false) ≡ false
@@ -80,15 +79,11 @@ pub written-reads : WrittenReads
 written-reads kind payload behind h = (record-read kind payload behind h, record-payload kind payload behind h)
 
 pub read-writes : ReadWrites
-unfolding writeRefusal
 read-writes s out b h room =
-    let kind = readOf s .kind in
-    let payload = payloadOf s in
     let k : readRefusal s ≡ 0 = sym (read-refusal s) ∙ h in
-    let size : readOf s .size ≡ 6 + length payload = payload-size s k in
-    let taken : writeRefusal kind (length payload) (length out) ≡ 0 =
-    sym (pick-yes _ _ _ (payload-fits s k) (pick-yes _ _ _ (le-leb (6 + length payload) (length out) (omega (arith, size, room))) refl)) in
-    write-yes kind payload out taken ∙ rw (← size) (ap (λ (l : List ℕ). record { refusal = 0; written = readOf s .size; out = l ++ drop (readOf s .size) out }) (bytes-again s k b))
+    let size : readOf s .size ≡ 6 + length (payloadOf s) = payload-size s k in
+    write-fits (readOf s .kind) (payloadOf s) out (payload-fits s k) (omega (arith, size, room))
+    ∙ rw (← size) (ap (λ (l : List ℕ). record { refusal = 0; written = readOf s .size; out = l ++ drop (readOf s .size) out }) (bytes-again s k b))
 
 pub joined-reads : JoinedReads
 joined-reads rs s h = capture-joined rs s h

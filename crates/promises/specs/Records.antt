@@ -7,11 +7,10 @@ use Prim.Native.Nat.{ℕ, _+_, _*_, _%_, _≤_, _<_}
 use lib.Dec.{eqb, leb}
 use lib.ListN.{length, getD, take, drop}
 use Rattle.laws.specs.Kinds.{All}
-use Rattle.record.specs.declared.reading.Found.{Found}
 use Rattle.record.specs.Record.{Byte, fitsOf, recordOf}
 use Rattle.record.specs.Reading.{readOf, payloadOf}
-use Rattle.record.specs.Writing.{Wrote, writeOf}
-use Rattle.record.specs.Capture.{Record, Fits, Capture, joinedOf, captureOf}
+use Rattle.record.specs.Writing.{writeOf}
+use Rattle.record.specs.Capture.{Record, Fits, joinedOf, captureOf}
 use Rattle.capi.specs.Record.{recordReadOf}
 use Rattle.promises.specs.Demand1.{firstOf, test}
 

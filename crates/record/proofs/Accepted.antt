@@ -1,5 +1,7 @@
 -- What an accepted read and a fitting payload are, taken apart. Assumes nothing.
 --     fits-most, fits-kind     what fits has at most 4,096 bytes, and a kind of at most 4
+--     fits-pairs, fits-samples, fits-flush     and the other way round: what fits
+--     nine-short               9 is given for fewer bytes than the largest record has
 --     header-six               six bytes are there where the header is not refused
 --     both-so                  two tests that hold, together
 --     Whole, accepted          what is so of bytes whose record is accepted
@@ -9,9 +11,9 @@
 use mathlib.Core.Path.{_≡_, refl, sym}
 use mathlib.Core.Bool.{Bool, true, false, _&&_, true≢false}
 use mathlib.Core.List.{List}
-use Prim.Native.Nat.{ℕ, suc, _+_, _≤_}
+use Prim.Native.Nat.{ℕ, suc, _+_, _%_, _≤_, _<_}
 use native.Mathlib.Omega.{arith}
-use borrow.Author.Tests.{leb-true, eqb-true, eqb-false, le-leb, eq-eqb}
+use borrow.Author.Tests.{leb-true, leb-false, eqb-true, eqb-false, le-leb, eq-eqb}
 use lib.Dec.{eqb, leb}
 use lib.ListN.{length, getD}
 use Rattle.laws.specs.Choice.{pick, pick-yes, pick-if, both}
@@ -50,6 +52,18 @@ module _ (kind n : ℕ) (h : fitsOf kind n ≡ true) where
       (λ g. pick-if (λ b. b ≡ true → kind ≤ 4) (eqb kind 3) (λ e t. omega (arith, eqb-true kind 3 e))
       (λ i. pick-if (λ b. b ≡ true → kind ≤ 4) (eqb kind 4) (λ e t. omega (arith, eqb-true kind 4 e)) (λ j t. absurd (true≢false (sym t))))))
       (both (leb n 4096) _ h .1)
+
+pub fits-pairs : (n : ℕ) → n ≤ 4096 → n % 8 ≡ 0 → fitsOf 1 n ≡ true
+unfolding fitsOf pick
+fits-pairs n h k = rw (le-leb n 4096 h) (eq-eqb (n % 8) 0 k)
+
+pub fits-samples : (n : ℕ) → n ≤ 4096 → n % 4 ≡ 0 → fitsOf 2 n ≡ true
+unfolding fitsOf pick
+fits-samples n h k = rw (le-leb n 4096 h) (eq-eqb (n % 4) 0 k)
+
+pub fits-flush : fitsOf 3 0 ≡ true
+unfolding fitsOf pick
+fits-flush = refl
 
 pub record Whole (s : List ℕ) : Type 0 where
   pub six : 6 ≤ length s
@@ -106,3 +120,22 @@ write-accepted kind n room h =
     let a = no-refusal (fitsOf kind n) _ 7 h in
     let b = no-refusal (leb (6 + n) room) 0 4 (a .1) in
     (a .0, leb-true (6 + n) room (b .0))
+
+-- each test of the header holds, or its own number is the refusal
+header-nine : (s : List ℕ) → headerRefusal s ≡ 9 → length s < 6
+unfolding headerRefusal
+header-nine s =
+    let Q : ℕ → Type 0 = λ n. n ≡ 9 → length s < 6 in
+    pick-if Q (leb 6 (length s))
+    (λ _. pick-if Q (markedOf s) (λ _. pick-if Q (headedOf s) (λ _ h. absurd (omega arith)) (λ _ h. absurd (omega arith))) (λ _ h. absurd (omega arith)))
+    (λ few h. leb-false 6 (length s) few)
+
+pub nine-short : (s : List ℕ) → readRefusal s ≡ 9 → length s < 4102
+unfolding readRefusal
+nine-short s =
+    let Q : ℕ → Type 0 = λ n. n ≡ 9 → length s < 4102 in
+    pick-if Q (eqb (headerRefusal s) 0)
+    (λ e. let a = header-accepted s (eqb-true (headerRefusal s) 0 e) in
+    let most = fits-most (kindIn s) (lengthIn s) (both (eqb (getD s 3 0) 0) _ (a .2) .1) in
+    pick-if Q (wholeOf s) (λ _ h. absurd (omega arith)) (λ short h. omega (arith, leb-false (6 + lengthIn s) (length s) short)))
+    (λ _ h. omega (arith, header-nine s h))

@@ -1,7 +1,7 @@
 -- A record read, and a record written: the two undo each other. Assumes nothing.
 --     read-yes, read-no, read-refusal     what `readOf` gives, by the refusal
 --     payload-yes, payload-no             what `payloadOf` gives
---     write-yes, write-no, write-refusal  what `writeOf` gives
+--     write-yes, write-fits, write-no, write-refusal     what `writeOf` gives
 --     record-accepted, record-read, record-payload     a record's bytes are read as what it was made of, whatever follows them
 --     read-record, bytes-again     an accepted record written again gives its bytes
 --     payload-fits, payload-size     its payload fits its kind, and stands behind six bytes
@@ -11,7 +11,7 @@ use mathlib.Core.Bool.{true}
 use mathlib.Core.List.{List, [], _∷_, _++_}
 use Prim.Native.Nat.{ℕ, suc, _+_, _*_, _/_, _%_, _≤_}
 use native.Mathlib.Omega.{arith}
-use borrow.Author.Tests.{eq-eqb, ne-eqb, eqb-true}
+use borrow.Author.Tests.{eq-eqb, ne-eqb, eqb-true, le-leb}
 use lib.Dec.{eqb}
 use lib.ListN.{length, take, drop, length-append, length-drop}
 use lib.Seq.{length-take-le, take-append-seam}
@@ -144,6 +144,12 @@ module _ (kind : ℕ) (payload out : List ℕ) where
   pub write-yes : refusal ≡ 0 → writeOf kind payload out ≡ wroteOf kind payload out
   unfolding writeOf
   write-yes h = sym (pick-yes _ _ _ (eq-eqb refusal 0 h) refl)
+
+  -- what fits and has room is written
+  pub write-fits : fitsOf kind (length payload) ≡ true → 6 + length payload ≤ length out → writeOf kind payload out ≡ wroteOf kind payload out
+  unfolding writeRefusal
+  write-fits fits room =
+      write-yes (sym (pick-yes _ _ _ fits (pick-yes _ _ _ (le-leb (6 + length payload) (length out) room) refl)))
 
   pub write-no : (refusal ≡ 0 → ⊥) → writeOf kind payload out ≡ unwrittenOf refusal out
   unfolding writeOf

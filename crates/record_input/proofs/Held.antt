@@ -1,65 +1,27 @@
 -- What the front of the bytes held tells. Assumes nothing.
---     size-within     a whole record lies within the bytes, and has a header
---     nine-short      bytes that are too few are fewer than the largest record has
+--     size-within     a whole record lies within the bytes
+--     nine-few        bytes that are too few are fewer than the largest record has
 --     Meets, meets, told     what is so of the bytes, by cases; and where an answer is told to be one of them
 use mathlib.Core.Path.{_≡_, refl, sym, _∙_, subst}
 use mathlib.Core.Bool.{Bool, true, false}
 use mathlib.Core.List.{List}
-use Prim.Native.Nat.{ℕ, _+_, _≤_, _<_}
-use native.Mathlib.Omega.{arith}
-use borrow.Author.Tests.{leb-false, eqb-true, eqb-false}
-use lib.Dec.{eqb, leb}
-use lib.ListN.{length, getD}
-use Rattle.laws.specs.Choice.{pick-if, both}
-use Rattle.record.specs.declared.reading.Found.{Found}
-use Rattle.record.specs.Record.{fitsOf}
-use Rattle.record.specs.Reading.{kindIn, lengthIn, markedOf, headedOf, wholeOf, headerRefusal, readRefusal, readOf}
-use Rattle.record.proofs.Accepted.{fits-most, accepted}
+use Prim.Native.Nat.{ℕ, _≤_, _<_}
+use borrow.Author.Tests.{eqb-true}
+use lib.Dec.{eqb}
+use lib.ListN.{length}
+use Rattle.laws.specs.Choice.{pick-if}
+use Rattle.record.specs.Reading.{readOf}
+use Rattle.record.proofs.Accepted.{nine-short}
+use Rattle.record.proofs.Records.{read-refusal, size-most}
 use Rattle.record_input.specs.declared.front.Front.{Front}
 use Rattle.record_input.specs.declared.front.Front.the-variants.{Whole, Begun, End, Refused}
 use Rattle.record_input.specs.Front.{frontOf}
 
-module _ (s : List ℕ) where
-  refusal-is : readOf s .refusal ≡ readRefusal s
-  unfolding readOf
-  refusal-is = pick-if (λ (r : Found). r .refusal ≡ readRefusal s) (eqb (readRefusal s) 0) (λ e. sym (eqb-true (readRefusal s) 0 e)) (λ f. refl)
+pub size-within : (s : List ℕ) → readOf s .refusal ≡ 0 → readOf s .size ≤ length s
+size-within s h = size-most s (sym (read-refusal s) ∙ h)
 
-  size-is : readOf s .refusal ≡ 0 → readOf s .size ≡ 6 + lengthIn s
-  unfolding readOf
-  size-is h =
-      pick-if (λ (r : Found). r .refusal ≡ 0 → r .size ≡ 6 + lengthIn s) (eqb (readRefusal s) 0) (λ e k. refl) (λ f k. absurd (different f k)) h
-    where
-      different : eqb (readRefusal s) 0 ≡ false → readRefusal s ≡ 0 → ⊥
-      different f k = eqb-false (readRefusal s) 0 f k
-
-  pub size-within : readOf s .refusal ≡ 0 → readOf s .size ≤ length s
-  size-within h = let a = accepted s (sym refusal-is ∙ h) .all in let e = size-is h in omega arith
-
-  header-most : headerRefusal s ≡ 0 → lengthIn s ≤ 4096
-  unfolding headerRefusal
-  header-most =
-      let Q : ℕ → Type 0 = λ n. n ≡ 0 → lengthIn s ≤ 4096 in
-      pick-if Q (leb 6 (length s))
-      (λ six. pick-if Q (markedOf s)
-      (λ mark. pick-if Q (headedOf s) (λ head h. fits-most (kindIn s) (lengthIn s) (both (eqb (getD s 3 0) 0) (fitsOf (kindIn s) (lengthIn s)) head .1)) (λ no h. absurd (omega arith)))
-      (λ no h. absurd (omega arith))) (λ no h. absurd (omega arith))
-
-  header-nine : headerRefusal s ≡ 9 → length s < 6
-  unfolding headerRefusal
-  header-nine =
-      let Q : ℕ → Type 0 = λ n. n ≡ 9 → length s < 6 in
-      pick-if Q (leb 6 (length s))
-      (λ six. pick-if Q (markedOf s) (λ mark. pick-if Q (headedOf s) (λ head h. absurd (omega arith)) (λ no h. absurd (omega arith))) (λ no h. absurd (omega arith)))
-      (λ few h. leb-false 6 (length s) few)
-
-  pub nine-short : readOf s .refusal ≡ 9 → length s < 4102
-  unfolding readRefusal
-  nine-short h =
-      let Q : ℕ → Type 0 = λ n. n ≡ 9 → length s < 4102 in
-      pick-if Q (eqb (headerRefusal s) 0)
-      (λ e. let most = header-most (eqb-true (headerRefusal s) 0 e) in
-      pick-if Q (wholeOf s) (λ all h. absurd (omega arith)) (λ short h. let few = leb-false (6 + lengthIn s) (length s) short in omega arith))
-      (λ no h. let few = header-nine h in omega arith) (sym refusal-is ∙ h)
+pub nine-few : (s : List ℕ) → readOf s .refusal ≡ 9 → length s < 4102
+nine-few s h = nine-short s (sym (read-refusal s) ∙ h)
 
 abbrev pub Meets : Front → List ℕ → Bool → Type 0
 Meets (Whole kind size) s ended = readOf s ≡ record { refusal = 0; kind = kind; size = size }

@@ -2,28 +2,22 @@
 --     both-length          how many bytes two records take up
 --     first-ends           the first ends within the buffer
 --     wrote-both           what both leave: how many bytes they take up, and the buffer
-use mathlib.Core.Path.{_≡_, refl, sym, ap, _∙_}
+use mathlib.Core.Path.{_≡_, sym, ap, _∙_}
 use mathlib.Core.Bool.{true}
 use mathlib.Core.List.{List, [], _++_, append-assoc, append-nil}
 use Prim.Native.Nat.{ℕ, _+_, _-_, _≤_}
 use native.Mathlib.Omega.{arith}
-use borrow.Author.Tests.{le-leb}
 use borrow.Rule.Slice.PartAt.{part-to-end}
 use borrow.Rule.Slice.PartMut.{postOf, putMid, post-is}
 use lib.ListN.{length, take, drop, length-append, length-drop}
 use lib.Seq.{drop-length, take-at, drop-at, drop-drop}
-use Rattle.laws.specs.Choice.{pick}
 use Rattle.record.specs.Record.{fitsOf, recordOf}
-use Rattle.record.specs.Writing.{Wrote, writeRefusal, writeOf}
+use Rattle.record.specs.Writing.{Wrote, writeOf}
+use Rattle.record.proofs.Records.{write-fits}
 use Rattle.recorded.specs.Recorded.{bothOf}
 
 pub both-length : (kind : ℕ) (payload delivered : List ℕ) → length (bothOf kind payload delivered) ≡ 12 + length payload + length delivered
 both-length kind payload delivered = length-append (recordOf kind payload) (recordOf 2 delivered) ∙ omega arith
-
-write-left : (kind : ℕ) (payload out : List ℕ) → fitsOf kind (length payload) ≡ true → 6 + length payload ≤ length out
-    → writeOf kind payload out ≡ record { refusal = 0; written = 6 + length payload; out = recordOf kind payload ++ drop (6 + length payload) out }
-unfolding writeOf writeRefusal pick
-write-left kind payload out fits room = rw (fits, le-leb (6 + length payload) (length out) room) refl
 
 module _ (kind : ℕ) (payload delivered out : List ℕ) (fits : (fitsOf kind (length payload) ≡ true) × (fitsOf 2 (length delivered) ≡ true))
     (room : length (bothOf kind payload delivered) ≤ length out) (first : Wrote) (h : first ≡ writeOf kind payload out) where
@@ -31,7 +25,7 @@ module _ (kind : ℕ) (payload delivered out : List ℕ) (fits : (fitsOf kind (l
   first-room = let l = both-length kind payload delivered in omega (arith, l)
 
   first-left : first ≡ record { refusal = 0; written = 6 + length payload; out = recordOf kind payload ++ drop (6 + length payload) out }
-  first-left = h ∙ write-left kind payload out (fits .0) first-room
+  first-left = h ∙ write-fits kind payload out (fits .0) first-room
 
   first-written : first .written ≡ 6 + length payload
   first-written = ap (λ (w : Wrote). w .written) first-left
@@ -59,7 +53,7 @@ module _ (kind : ℕ) (payload delivered out : List ℕ) (fits : (fitsOf kind (l
     second-room = let l = both-length kind payload delivered in rw (length-drop (6 + length payload) out) (omega (arith, l))
 
     second-left : second ≡ record { refusal = 0; written = 6 + length delivered; out = recordOf 2 delivered ++ drop (6 + length delivered) (drop (6 + length payload) out) }
-    second-left = g ∙ ap (writeOf 2 delivered) behind-first ∙ write-left 2 delivered (drop (6 + length payload) out) (fits .1) second-room
+    second-left = g ∙ ap (writeOf 2 delivered) behind-first ∙ write-fits 2 delivered (drop (6 + length payload) out) (fits .1) second-room
 
     both-written : first .written + second .written ≡ length (bothOf kind payload delivered)
     both-written =

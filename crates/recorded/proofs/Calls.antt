@@ -1,5 +1,4 @@
 -- What a call leaves, refused and accepted, and that its records have room. Assumes nothing.
---     fits-pairs, fits-samples, fits-flush     what may stand in a record
 --     fed-accepted, finished-accepted     the canceller's own call is accepted where the state and the lent buffers are,
 --     fed-number, finished-number         and refused as they say
 --     fed-few, finished-few     how many samples it delivers at most
@@ -10,7 +9,7 @@
 use mathlib.Core.Path.{_≡_, refl, sym, ap, _∙_, subst}
 use mathlib.Core.Bool.{Bool, true, false}
 use mathlib.Core.List.{List, [], _++_}
-use Prim.Native.Nat.{ℕ, _+_, _*_, _/_, _%_, _≤_, min}
+use Prim.Native.Nat.{ℕ, _+_, _*_, _/_, _≤_, min}
 use native.Mathlib.Omega.{arith}
 use borrow.Author.Tests.{le-leb, leb-true, eq-eqb, eqb-true, eqb-false}
 use lib.Dec.{eqb, leb}
@@ -30,22 +29,9 @@ use Rattle.wire.proofs.Captures.{length-near, length-far}
 use Rattle.capture.specs.Feeds.{Fed, roomOf, fedOf, finishedOf}
 use Rattle.capture.specs.Program.{sentBy, buffer, lastBuffer}
 use Rattle.record.specs.Record.{fitsOf}
+use Rattle.record.proofs.Accepted.{fits-pairs, fits-samples, fits-flush}
 use Rattle.recorded.proofs.Both.{both-length}
 use Rattle.recorded.specs.Recorded.{takenOf, Left, refusedOf, acceptedOf, recordedBy, bothOf, feedOf, finishOf, firstRefusal}
-
--- ---- records
-
-pub fits-pairs : (n : ℕ) → n ≤ 4096 → n % 8 ≡ 0 → fitsOf 1 n ≡ true
-unfolding fitsOf pick
-fits-pairs n h k = rw (le-leb n 4096 h) (eq-eqb (n % 8) 0 k)
-
-pub fits-samples : (n : ℕ) → n ≤ 4096 → n % 4 ≡ 0 → fitsOf 2 n ≡ true
-unfolding fitsOf pick
-fits-samples n h k = rw (le-leb n 4096 h) (eq-eqb (n % 4) 0 k)
-
-pub fits-flush : fitsOf 3 0 ≡ true
-unfolding fitsOf pick
-fits-flush = refl
 
 -- ---- what refuses
 

@@ -30,7 +30,8 @@ use Rattle.record.specs.Capture.{Record, Fits, joinedOf, captureOf as heldIn}
 use Rattle.record.proofs.Captures.{aheadOf, capture-none, capture-joined}
 use Rattle.recorded.specs.Recorded.{wholeIn, takenOf, Left, acceptedOf, bothOf}
 use Rattle.recorded.specs.Program.{engineBy, writtenBy, blockOf, flushOf, Going, afterOf, blocksOf, endOf, ranOf, callOf, recordsOf, payloadsOf, Filled, Program}
-use Rattle.recorded.proofs.Calls.{fits-pairs, fits-samples, fits-flush, fed-accepted, fed-few, finished-few, finished-number, feed-runs, finish-runs}
+use Rattle.record.proofs.Accepted.{fits-pairs, fits-samples, fits-flush}
+use Rattle.recorded.proofs.Calls.{fed-accepted, fed-few, finished-few, finished-number, feed-runs, finish-runs}
 
 -- ---- a block's whole pairs
 

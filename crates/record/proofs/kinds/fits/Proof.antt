@@ -1,8 +1,7 @@
 -- `record::kinds::fits` meets its contract: each way out is what the tests of `fitsOf` pick. Assumes nothing.
 use mathlib.Core.Path.{_≡_, refl}
-use mathlib.Core.Bool.{Bool, true, false}
+use mathlib.Core.Bool.{Bool, false}
 use Prim.Native.Nat.{ℕ, _%_, _≤_, _<_}
-use borrow.Author.Needs.{needs}
 use borrow.Author.Tests.{le-leb, lt-leb, eq-eqb, ne-eqb}
 use lib.Dec.{eqb}
 use Rattle.laws.specs.Choice.{pick, pick-yes, pick-no}

@@ -6,7 +6,6 @@ use native.Mathlib.Omega.{arith}
 use borrow.Author.Needs.{needs}
 use borrow.Author.Tests.{eq-eqb, ne-eqb}
 use Rattle.laws.specs.Choice.{pick-yes, pick-no}
-use Rattle.record.specs.declared.reading.Found.{Found}
 use Rattle.record.specs.Reading.{kindIn, lengthIn, readRefusal, readOf}
 use Rattle.record.proofs.Accepted.{accepted, short-length}
 use Rattle.record.proofs.reading.read.Statement.{statement}

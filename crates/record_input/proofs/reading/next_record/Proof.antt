@@ -7,7 +7,7 @@ use Rattle.record_input.specs.declared.reading.Record.{Record}
 use Rattle.record_input.specs.declared.reading.Next.the-variants.{Whole}
 use Rattle.record_input.specs.declared.reading.Read.{Read}
 use Rattle.record_input.specs.Reading.{Lies, heldOf, Says, Grew, turnsOf}
-use Rattle.record_input.proofs.Held.{told, nine-short}
+use Rattle.record_input.proofs.Held.{told, nine-few}
 use Rattle.record_input.proofs.Turns.{length-held, ends-within, whole-says}
 use Rattle.record_input.proofs.reading.next_record.Statement.{statement}
 use Rattle.record_input.proofs.reading.next_record.Tie as tie
@@ -48,7 +48,7 @@ next-record-spec =
     (λ c. search needs)
     (λ c κs. let at = c .before .before .before .before .before .before .loop in
     let begun = told (heldOf (at .held) (at .block)) (at .held .ended) (c .before .before .before .at-front .ensures) (c .before .enum-told2 .given .1) in
-    let few = nine-short (heldOf (at .held) (at .block)) (begun .0) in
+    let few = nine-few (heldOf (at .held) (at .block)) (begun .0) in
     let long = length-held (at .held) (at .block) (at .inv .1 .0) in
     (search needs, (begun .1, omega arith)))
     (λ c. search needs)
