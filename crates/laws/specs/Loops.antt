@@ -106,6 +106,10 @@ module _ {A : Type 0} where
   over-at z (suc n) zero f (x ∷ d) h l = refl
   over-at z (suc n) (suc k) f (x ∷ d) h l = over-at z n k (λ j. f (suc j)) d (le-of-suc-le-suc h) (le-of-suc-le-suc l)
 
+  -- a loop that has passed all m places of a fresh array
+  pub over-passed : (z : A) (n m : ℕ) (f : ℕ → A → A) (d : List A) {x : List A} → length d ≡ m → m ≤ n → x ≡ over n f d → (k : ℕ) → k < m → getD x k z ≡ f k (getD d k z)
+  over-passed z n m f d a g e k l = ap (λ (y : List A). getD y k z) e ∙ over-at z n k f d (omega arith) (omega arith)
+
   -- ---- overAt
 
   unfoldable pub overAt : ℕ → ℕ → (ℕ → A → A) → List A → List A

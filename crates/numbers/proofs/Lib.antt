@@ -2,6 +2,8 @@ pub mod Rounding
 pub mod Tests
 pub mod Values
 pub mod Narrowed
+pub mod Splitting
+pub mod Plain
 pub mod Ordered
 pub mod Zeros
 pub mod Ranged

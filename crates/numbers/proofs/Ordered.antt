@@ -1,5 +1,8 @@
 -- The order of numbers, and what minimum, maximum and clamp are bounded by. Assumes nothing.
 --     total          of two that are no NaN, where the one is not below the other, the other is at most the one
+--     apart          what is at most another is not above it
+--     le-through     what is above 0 and at most x is at most what x is at most
+--     lesser-above   what is above 0 and at most the lesser of two is at most each
 --     same-of-le     two positive values of a format that are at most each other are the same
 --     min-right, max-right, clamp-low, clamp-high    the bounds
 --     clamp-nan      a clamped NaN stays
@@ -10,11 +13,11 @@ use native.Mathlib.Nat.{le-antisymm, eq-or-lt-of-le}
 use native.Mathlib.Omega.{arith}
 use mathlib.Core.Bool.{Bool, true, false, not, _&&_, _||_, true≢false}
 use lib.Dec.{T, ltb, eqb, lt→ltb}
-use borrow.Author.Tests.{ltb-false, eq-eqb}
+use borrow.Author.Tests.{ltb-false, eq-eqb, le-ltb}
 use lib.Ieee.{Float, nan, inf, fin, Format, up, down, below, level, lt, eq, le, ne, fits, isNan}
 use lib.Ieee.Fits.{and-i}
 use lib.Ieee.Exact.{HasValue}
-use lib.Ieee.Positive.{num, den, den-pos, positive, own-value, le→cross}
+use lib.Ieee.Positive.{num, den, den-pos, positive, above, above-of-le, own-value, le→cross, le-trans-positive}
 use Rattle.laws.specs.Choice.{pick, pick-if}
 use Rattle.numbers.proofs.Tests.{ne-self}
 use Rattle.numbers.proofs.Values.{unique}
@@ -89,6 +92,65 @@ le-self x p = or-r (lt x x) (eq x x) (not-not (eq x x) (subst (λ (b : Bool). T 
 pub lt-le : (x y : Float) → lt x y ≡ true → T (le x y)
 unfolding le
 lt-le x y h = or-l (lt x y) (eq x y) (holds (lt x y) h)
+
+-- a NaN is below nothing, and nothing above 0 is one
+pub lt-number : (x y : Float) → lt x y ≡ true → T (not (isNan x))
+unfolding lt isNan
+lt-number nan y h = absurd (true≢false (sym h))
+lt-number (inf s) y h = tt
+lt-number (fin s m e) y h = tt
+
+pub positive-number : (x : Float) → T (positive x) → T (not (isNan x))
+unfolding isNan
+positive-number nan p = absurd p
+positive-number (inf s) p = tt
+positive-number (fin s m e) p = tt
+
+-- what is above 0 and at most z: z is not below it
+pub apart : (b z : Float) → T (positive b) → T (le b z) → lt z b ≡ false
+unfolding lt
+apart nan z p h = absurd p
+apart (inf s) z p h = absurd p
+apart (fin true m e) z p h = absurd p
+apart (fin false m e) nan p h = refl
+apart (fin false m e) (inf true) p h = absurd (above-of-le (fin false m e) (inf true) p h)
+apart (fin false m e) (inf false) p h = refl
+apart (fin false m e) (fin true n d) p h = absurd (above-of-le (fin false m e) (fin true n d) p h)
+apart (fin false m e) (fin false n d) p h = le-ltb (n * up d * down e) (m * up e * down d) (le→cross (fin false m e) (fin false n d) p (above-of-le (fin false m e) (fin false n d) p h) h)
+
+pub below-top : (b : Float) → T (positive b) → T (le b (inf false))
+unfolding le
+below-top nan p = absurd p
+below-top (inf s) p = absurd p
+below-top (fin s m e) p = tt
+
+top-only : (y : Float) → T (le (inf false) y) → y ≡ inf false
+unfolding le
+top-only nan k = absurd k
+top-only (inf true) k = absurd k
+top-only (inf false) k = refl
+top-only (fin t n d) k = absurd k
+
+pub le-through : (b x y : Float) → T (positive b) → T (le b x) → T (le x y) → T (le b y)
+le-through b x y p h k = go x y (above-of-le b x p h) h k
+  where
+    go : (x y : Float) → T (above x) → T (le b x) → T (le x y) → T (le b y)
+    go nan y a h k = absurd a
+    go (inf true) y a h k = absurd a
+    go (inf false) y a h k = subst (λ (z : Float). T (le b z)) (sym (top-only y k)) h
+    go (fin true m e) y a h k = absurd a
+    go (fin false m e) y a h k = next y (above-of-le (fin false m e) y a k) k
+      where
+        next : (y : Float) → T (above y) → T (le (fin false m e) y) → T (le b y)
+        next nan c k = absurd c
+        next (inf true) c k = absurd c
+        next (inf false) c k = below-top b p
+        next (fin true n d) c k = absurd c
+        next (fin false n d) c k = le-trans-positive b (fin false m e) (fin false n d) p a c h k
+
+-- what is above 0 and at most the lesser of two is at most each
+pub lesser-above : (b x y : Float) → T (positive b) → T (not (isNan x)) → T (not (isNan y)) → T (le b (pick (lt x y) x y)) → T (le b x) × T (le b y)
+lesser-above b x y p m n = pick-if (λ r. T (le b r) → T (le b x) × T (le b y)) (lt x y) (λ e h. (h, le-through b x y p h (lt-le x y e))) (λ e h. (le-through b y x p h (total x y m n e), h))
 
 -- two positive values of a format that are at most each other are the same
 value-of-cross : (x : Float) (a c : ℕ) → T (positive x) → num x * c ≡ a * den x → HasValue x false a c

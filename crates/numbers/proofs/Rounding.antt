@@ -2,7 +2,7 @@
 use mathlib.Core.Path.{_≡_, refl, sym, ap, _∙_, subst}
 use mathlib.Core.Logic.{_⊎_, inl, inr}
 use Prim.Native.Nat.{ℕ, zero, suc, _+_, _-_, _*_, _/_, _%_, _^_, _≤_, _<_, compare, Ordering, Ordering·lt, Ordering·eq, Ordering·gt}
-use native.Mathlib.Nat.{le-refl, le-trans, le-of-eq, lt-of-lt-of-le, lt-of-not-le, not-le-of-lt, eq-or-lt-of-le, add-assoc, mul-assoc, mul-comm, mul-pos, mul-le-mul-right, le-of-mul-le-mul-right, mul-div-cancel, le-div-iff-mul-le, pow-succ', div-eq-of-lt, mod-eq-of-lt, mul-le-mul-left, zero-add, one-mul, mod-lt}
+use native.Mathlib.Nat.{le-refl, le-trans, le-of-eq, lt-of-lt-of-le, lt-of-le-of-lt, lt-of-not-le, not-le-of-lt, eq-or-lt-of-le, add-assoc, mul-assoc, mul-comm, mul-pos, mul-le-mul-right, le-of-mul-le-mul-right, mul-div-cancel, le-div-iff-mul-le, pow-succ', div-eq-of-lt, mod-eq-of-lt, mul-le-mul-left, zero-add, one-mul, mod-lt}
 use native.Mathlib.Numerals.{add-one}
 use native.Mathlib.Omega.{arith}
 use mathlib.Core.Bool.{Bool, true, false, not, cond}
@@ -80,7 +80,7 @@ closest-none a b h =
 
 -- ---- how many digits a number has
 
-size-gt : (n j : ℕ) → 2 ^ j ≤ n → j < size n
+pub size-gt : (n j : ℕ) → 2 ^ j ≤ n → j < size n
 size-gt n j h = lt-of-not-le (λ (g : size n ≤ j). not-le-of-lt (lt-of-lt-of-le (size-lt n) (pow-mono g)) h)
 
 -- ---- the bits of a finite value, by its size in units of the smallest value
@@ -211,7 +211,7 @@ closest-le M d m l = le-trans (nearest-le (M / 2 ^ d) (compare (M % 2 ^ d * 2) (
     more : 53 ≤ 24 + d
     more = omega arith
 
-closest-ge : (M : ℕ) → 2 ^ 52 ≤ M → 2 ^ 23 ≤ closest M (2 ^ 29)
+pub closest-ge : (M : ℕ) → 2 ^ 52 ≤ M → 2 ^ 23 ≤ closest M (2 ^ 29)
 closest-ge M h = le-trans (le-div-iff-mul-le (pow-pos 29) .1 h) (nearest-ge (M / 2 ^ 29) (compare (M % 2 ^ 29 * 2) (2 ^ 29)))
 
 narrow-low : (x : Float) (s : Bool) (M E d : ℕ) → HasValue x s (M * 2 ^ E) (2 ^ 1074) → M < 2 ^ 53 → E + d ≡ 925 → 29 ≤ d → toBits binary32 (narrowOf x) ≡ cond s (2 ^ 31) 0 + closest M (2 ^ d)
@@ -247,18 +247,29 @@ narrow-big x s M E k v lo hi e l =
     ∙ units-inf s (closest M (2 ^ 29)) k (le-trans (mul-le-mul-left (2 ^ 23) (pow-mono l)) (mul-le-mul-right (2 ^ k) (closest-ge M lo))))
     ∙ toBits-inf s
 
+-- the narrowed number, where no carry gives the infinity
+pub narrow-value : (x : Float) (s : Bool) (M E k : ℕ) → HasValue x s (M * 2 ^ E) (2 ^ 1074) → 2 ^ 52 ≤ M → M < 2 ^ 53 → E + 29 ≡ 925 + k → k ≤ 252
+    → HasValue (narrowOf x) s (closest M (2 ^ 29) * 2 ^ k) (2 ^ 149)
+narrow-value x s M E k v lo hi e l =
+    subst (λ (y : Float). HasValue y s (closest M (2 ^ 29) * 2 ^ k) (2 ^ 149)) (sym (narrow-at x s (M * 2 ^ E) (2 ^ 1074) (pow-pos 1074) v ∙ round-at s M E 29 k e (drop-mid M E k lo hi e)))
+    (units-val binary32 s (closest M (2 ^ 29)) k
+    (lt-of-le-of-lt (le-trans (mul-le-mul-right (2 ^ k) (closest-le M 29 hi (lit≤ tt))) (le-of-eq (sym (pow-add 2 24 k)))) (pow-lt under)))
+  where
+    under : 24 + k < 277
+    under = omega arith
+
 -- ---- the fields of an f64
 
 -- an f64 that is no NaN is what its own pattern's fields say
-fields-of : (x : Float) → T (fits binary64 x) → x ≡ ofFields binary64 (leb (2 ^ 63) (toBits binary64 x)) (toBits binary64 x % 2 ^ 63 / 2 ^ 52) (toBits binary64 x % 2 ^ 52)
+pub fields-of : (x : Float) → T (fits binary64 x) → x ≡ ofFields binary64 (leb (2 ^ 63) (toBits binary64 x)) (toBits binary64 x % 2 ^ 63 / 2 ^ 52) (toBits binary64 x % 2 ^ 52)
 unfolding ofBits
 fields-of x h = sym (ofBits-toBits binary64 x h)
 
-value-zero : (s : Bool) (t : ℕ) → HasValue (ofFields binary64 s 0 t) s (t * 2 ^ 0) (2 ^ 1074)
+pub value-zero : (s : Bool) (t : ℕ) → HasValue (ofFields binary64 s 0 t) s (t * 2 ^ 0) (2 ^ 1074)
 unfolding ofFields
 value-zero s t = odd-sign 53 s t 0 1074
 
-value-some : (s : Bool) (e t : ℕ) → suc e < 2047 → HasValue (ofFields binary64 s (suc e) t) s ((2 ^ 52 + t) * 2 ^ e) (2 ^ 1074)
+pub value-some : (s : Bool) (e t : ℕ) → suc e < 2047 → HasValue (ofFields binary64 s (suc e) t) s ((2 ^ 52 + t) * 2 ^ e) (2 ^ 1074)
 unfolding ofFields
 value-some s e t h =
     subst (λ (b : Bool). HasValue (cond b (cond (eqb t 0) (inf s) nan) (odd 53 s (2 ^ 52 + t) e 1074)) s ((2 ^ 52 + t) * 2 ^ e) (2 ^ 1074)) (sym (ne-eqb (suc e) 2047 (differ e h)))
@@ -267,13 +278,21 @@ value-some s e t h =
     differ : (e : ℕ) → suc e < 2047 → suc e ≡ 2047 → ⊥
     differ e h q = omega arith
 
-value-top : (s : Bool) (t : ℕ) → T (not (isNan (ofFields binary64 s 2047 t))) → ofFields binary64 s 2047 t ≡ inf s
-unfolding ofFields isNan
-value-top s t h = go (eqb t 0) h
+pub value-end : (s : Bool) (t : ℕ) → (ofFields binary64 s 2047 t ≡ inf s) ⊎ (ofFields binary64 s 2047 t ≡ nan)
+unfolding ofFields
+value-end s t = go (eqb t 0)
   where
-    go : (b : Bool) → T (not (isNan (cond b (inf s) nan))) → cond b (inf s) nan ≡ inf s
-    go true k = refl
-    go false k = absurd k
+    go : (b : Bool) → (cond b (inf s) nan ≡ inf s) ⊎ (cond b (inf s) nan ≡ nan)
+    go true = inl refl
+    go false = inr refl
+
+value-top : (s : Bool) (t : ℕ) → T (not (isNan (ofFields binary64 s 2047 t))) → ofFields binary64 s 2047 t ≡ inf s
+unfolding isNan
+value-top s t h = go (value-end s t)
+  where
+    go : (ofFields binary64 s 2047 t ≡ inf s) ⊎ (ofFields binary64 s 2047 t ≡ nan) → ofFields binary64 s 2047 t ≡ inf s
+    go (inl e) = e
+    go (inr e) = absurd (subst (λ (x : Float). T (not (isNan x))) e h)
 
 -- ---- what `magOf` is in each case
 
@@ -387,13 +406,3 @@ narrow-bits-is x f n =
 -- the unit that a shift makes
 pub unit-is : (e : ℕ) → 873 ≤ e → 1 * 2 ^ (926 - e) % 2 ^ 64 ≡ 2 ^ (926 - e)
 unit-is e h = let k : 1 + (926 - e) ≤ 64 = omega arith in shl-exact 1 (926 - e) 64 (lit≤ tt) k ∙ one-mul (2 ^ (926 - e))
-
--- ---- rounding off 29 digits by one sum: the half less one, and one more where the kept number is odd
-
-pub drop-low-is : (m : ℕ) → (m + 268435455 + m / 536870912 % 2) / 536870912 ≡ closest m (2 ^ 29)
-drop-low-is m = go (lt-or-ge (m % 2 ^ 29) (2 ^ 29 - m % 2 ^ 29)) (lt-or-ge (2 ^ 29 - m % 2 ^ 29) (m % 2 ^ 29))
-  where
-    go : (m % 2 ^ 29 < 2 ^ 29 - m % 2 ^ 29) ⊎ (2 ^ 29 - m % 2 ^ 29 ≤ m % 2 ^ 29) → (2 ^ 29 - m % 2 ^ 29 < m % 2 ^ 29) ⊎ (m % 2 ^ 29 ≤ 2 ^ 29 - m % 2 ^ 29) → (m + 268435455 + m / 536870912 % 2) / 536870912 ≡ closest m (2 ^ 29)
-    go (inl a) _ = let e : (m + 268435455 + m / 536870912 % 2) / 536870912 ≡ m / 2 ^ 29 = omega (arith, a) in e ∙ closest-down m (2 ^ 29) (pow-pos 29) a
-    go (inr a) (inl b) = let e : (m + 268435455 + m / 536870912 % 2) / 536870912 ≡ m / 2 ^ 29 + 1 = omega (arith, b) in e ∙ closest-up m (2 ^ 29) (pow-pos 29) b
-    go (inr a) (inr b) = let e : (m + 268435455 + m / 536870912 % 2) / 536870912 ≡ m / 2 ^ 29 + m / 2 ^ 29 % 2 = omega (arith, a, b) in e ∙ closest-tie m (2 ^ 29) (pow-pos 29) a b

@@ -1,19 +1,23 @@
--- A sum of powers is a zero only where each of them is, and a square only where what was squared is. Assumes nothing.
+-- A sum of powers is a zero only where each of them is, and below a bound only where each is; a square is a zero only where what was
+-- squared is. Assumes nothing.
+--     sum-below                      of two powers whose sum is below a bound, each is below it
 --     zero-of-left, zero-of-right    what is above 0 and a power: the sum is rounded to no less than the first was
 --     zero-of-square                 an f32's square in f64: at least 2^-298 where the f32 is no zero, and binary64 holds that
 use mathlib.Core.Path.{_≡_, refl, sym, ap, _∙_, subst}
-use mathlib.Core.Bool.{Bool, true, false, not, _&&_, cond}
+use mathlib.Core.Bool.{Bool, true, false, not, _&&_, cond, true≢false}
 use Prim.Native.Nat.{ℕ, zero, suc, _+_, _-_, _*_, _%_, _^_, _≤_, _<_}
-use native.Mathlib.Nat.{le-trans, le-of-eq, lt-irrefl, lt-of-lt-of-le, le-add-left, le-add-right, zero-lt-suc, zero-mul, mul-comm, mul-assoc, mul-pos, mul-le-mul, mul-le-mul-right}
+use native.Mathlib.Nat.{le-trans, le-of-eq, lt-irrefl, lt-of-lt-of-le, le-add-left, le-add-right, zero-lt-suc, zero-mul, add-comm, mul-comm, mul-assoc, mul-right-comm, mul-pos, mul-le-mul, mul-le-mul-right}
 use native.Mathlib.Omega.{arith}
 use lib.Dec.{T, ltb, leb, eqb, lt→ltb, ltb→lt, nltb→le, leb→le}
 use lib.IntN.{ℤ, negsuc}
-use lib.Ieee.{Float, nan, inf, fin, Format, binary32, binary64, prec, emax, low, up, down, round, sum, add, mul, le, fits}
+use lib.Ieee.{Float, nan, inf, fin, Format, binary32, binary64, prec, emax, low, up, down, round, sum, add, mul, lt, le, fits, isNan}
 use lib.Ieee.Fits.{up-pos, down-pos, and-l, and-r}
 use lib.Ieee.Order.{round-mono}
-use lib.Ieee.Positive.{num, den, den-pos, positive, own-value, value-pos, above, above-of-le}
+use lib.Ieee.Positive.{num, den, den-pos, positive, own-value, value-pos, above, above-of-le, le→cross}
 use Rattle.numbers.specs.Ranges.{Power}
 use Rattle.numbers.specs.Zeros.{Zero}
+use Rattle.numbers.proofs.Ordered.{apart, below-top, lt-number, positive-number, total}
+use Rattle.numbers.proofs.Tests.{terms}
 use Rattle.numbers.proofs.Values.{round-back}
 use Rattle.numbers.proofs.Ranged.{none-below}
 
@@ -33,11 +37,11 @@ round-own f (fin true m e) p h = absurd p
 round-own f (fin false m e) p h = round-back f false m e h
 
 -- rounding keeps the order, and x is rounded to itself
+round-least : (f : Format) (x : Float) (a c : ℕ) → T (positive x) → T (fits f x) → 0 < c → num x * c ≤ a * den x → T (le x (round f false a c))
+round-least f x a c p h C l = subst (λ (z : Float). T (le z (round f false a c))) (round-own f x p h) (round-mono f (num x) (den x) a c (den-pos x) C l)
+
 round-some : (f : Format) (x : Float) (a c : ℕ) → T (positive x) → T (fits f x) → 0 < c → num x * c ≤ a * den x → Zero (round f false a c) → ⊥
-round-some f x a c p h C l =
-    above-some (round f false a c)
-    (above-of-le x (round f false a c) p
-    (subst (λ (z : Float). T (le z (round f false a c))) (round-own f x p h) (round-mono f (num x) (den x) a c (den-pos x) C l)))
+round-some f x a c p h C l = above-some (round f false a c) (above-of-le x (round f false a c) p (round-least f x a c p h C l))
 
 -- ---- a sum of powers
 
@@ -73,22 +77,27 @@ sum-is f true false a b c p q = go (ltb a b) (ltb b a) (nltb→le a b) (ltb→lt
     go false true h l k = absurd (no (l tt) k)
     go false false h l k = ap (λ (n : ℕ). round f false n c) (none (h tt) k)
 
--- so a sum of no less than an x above 0 is no zero
-sum-some : (f : Format) (x : Float) (s t : Bool) (a b c : ℕ) → T (positive x) → T (fits f x) → 0 < c → (s ≡ true → a ≡ 0) → (t ≡ true → b ≡ 0)
-    → num x * c ≤ (a + b) * den x → Zero (sum f s a t b c) → ⊥
-sum-some f x s t a b c P h C p q l z = go s t p q (subst Zero (sum-is f s t a b c p q) z)
+-- so a sum of no less than an x above 0 is rounded to no less, and to no zero
+sum-least : (f : Format) (x : Float) (s t : Bool) (a b c : ℕ) → T (positive x) → T (fits f x) → 0 < c → (s ≡ true → a ≡ 0) → (t ≡ true → b ≡ 0)
+    → num x * c ≤ (a + b) * den x → T (le x (sum f s a t b c))
+sum-least f x s t a b c P h C p q l = subst (λ (z : Float). T (le x z)) (sym (sum-is f s t a b c p q)) (go s t p q)
   where
     none : a ≡ 0 → b ≡ 0 → a + b ≡ 0
     none j k = omega arith
 
     -- both marked negative: then both are 0, and x is above that
-    go : (s t : Bool) → (s ≡ true → a ≡ 0) → (t ≡ true → b ≡ 0) → Zero (round f (s && t) (a + b) c) → ⊥
-    go true true p q z =
-        lt-irrefl 0
+    go : (s t : Bool) → (s ≡ true → a ≡ 0) → (t ≡ true → b ≡ 0) → T (le x (round f (s && t) (a + b) c))
+    go true true p q =
+        absurd
+        (lt-irrefl 0
         (lt-of-lt-of-le (mul-pos (value-pos x (num x) (den x) P (den-pos x) (own-value x P)) C)
-        (le-trans l (le-of-eq (ap (λ (n : ℕ). n * den x) (none (p refl) (q refl)) ∙ zero-mul (den x)))))
-    go true false p q z = round-some f x (a + b) c P h C l z
-    go false t p q z = round-some f x (a + b) c P h C l z
+        (le-trans l (le-of-eq (ap (λ (n : ℕ). n * den x) (none (p refl) (q refl)) ∙ zero-mul (den x))))))
+    go true false p q = round-least f x (a + b) c P h C l
+    go false t p q = round-least f x (a + b) c P h C l
+
+sum-some : (f : Format) (x : Float) (s t : Bool) (a b c : ℕ) → T (positive x) → T (fits f x) → 0 < c → (s ≡ true → a ≡ 0) → (t ≡ true → b ≡ 0)
+    → num x * c ≤ (a + b) * den x → Zero (sum f s a t b c) → ⊥
+sum-some f x s t a b c P h C p q l = above-some (sum f s a t b c) (above-of-le x (sum f s a t b c) P (sum-least f x s t a b c P h C p q l))
 
 -- n / d ≤ w / (d * r) multiplied out, from n * r ≤ w
 over-left : (n d r w : ℕ) → n * r ≤ w → n * (d * r) ≤ w * d
@@ -134,6 +143,62 @@ zero-of-right f {x = fin s m e} {y = fin false (suc n) d} h p q z =
     absurd
     (sum-some f (fin false (suc n) d) s false a b (down e * down d) (lt→ltb 0 (suc n) (zero-lt-suc n)) h (mul-pos (down-pos e) (down-pos d))
     (none-below s m e (down d) (p .power)) (none-below false (suc n) d (down e) tt) (over-right (suc n * up d) (down d) (down e) (a + b) (le-add-left b a)) z)
+
+-- ---- a bound that one of two powers reaches, their sum reaches
+
+-- n / d ≤ m / e, and more over a common denominator
+reach : (n d m e r w : ℕ) → n * e ≤ m * d → n * (e * r) ≤ (m * r + w) * d
+reach n d m e r w h =
+    le-trans (le-of-eq (sym (mul-assoc n e r)))
+    (le-trans (mul-le-mul-right r h) (le-trans (le-of-eq (mul-right-comm m d r)) (mul-le-mul-right d (le-add-right (m * r) w))))
+
+module _ (f : Format) (b : Float) (B : T (positive b)) (h : T (fits f b)) where
+  add-left : (x y : Float) → Power x → Power y → T (not (isNan (add f x y))) → T (le b x) → T (le b (add f x y))
+  unfolding add isNan
+  add-left nan y p q n l = absurd (above-of-le b nan B l)
+  add-left (inf s) nan p q n l = absurd n
+  add-left (inf true) (inf t) p q n l = absurd (p .power)
+  add-left (inf false) (inf true) p q n l = absurd (q .power)
+  add-left (inf false) (inf false) p q n l = l
+  add-left (inf s) (fin t k d) p q n l = l
+  add-left (fin s m e) nan p q n l = absurd n
+  add-left (fin s m e) (inf true) p q n l = absurd (q .power)
+  add-left (fin s m e) (inf false) p q n l = below-top b B
+  add-left (fin true m e) (fin t k d) p q n l = absurd (above-of-le b (fin true m e) B l)
+  add-left (fin false m e) (fin t k d) p q n l =
+      sum-least f b false t (m * up e * down d) (k * up d * down e) (down e * down d) B h (mul-pos (down-pos e) (down-pos d)) (none-below false m e (down d) (p .power)) (none-below t k d (down e) (q .power))
+      (reach (num b) (den b) (m * up e) (down e) (down d) (k * up d * down e) (le→cross b (fin false m e) B (above-of-le b (fin false m e) B l) l))
+
+  add-right : (x y : Float) → Power x → Power y → T (not (isNan (add f x y))) → T (le b y) → T (le b (add f x y))
+  unfolding add isNan
+  add-right nan y p q n l = absurd n
+  add-right (inf s) nan p q n l = absurd n
+  add-right (inf true) (inf t) p q n l = absurd (p .power)
+  add-right (inf false) (inf true) p q n l = absurd (q .power)
+  add-right (inf false) (inf false) p q n l = l
+  add-right (inf true) (fin t k d) p q n l = absurd (p .power)
+  add-right (inf false) (fin t k d) p q n l = below-top b B
+  add-right (fin s m e) nan p q n l = absurd n
+  add-right (fin s m e) (inf t) p q n l = l
+  add-right (fin s m e) (fin true k d) p q n l = absurd (above-of-le b (fin true k d) B l)
+  add-right (fin s m e) (fin false k d) p q n l =
+      sum-least f b s false (m * up e * down d) (k * up d * down e) (down e * down d) B h (mul-pos (down-pos e) (down-pos d)) (none-below s m e (down d) (p .power)) (none-below false k d (down e) (q .power))
+      (subst (λ (z : ℕ). num b * z ≤ (m * up e * down d + k * up d * down e) * den b) (mul-comm (down d) (down e))
+      (subst (λ (z : ℕ). num b * (down d * down e) ≤ z * den b) (add-comm (k * up d * down e) (m * up e * down d))
+      (reach (num b) (den b) (k * up d) (down d) (down e) (m * up e * down d) (le→cross b (fin false k d) B (above-of-le b (fin false k d) B l) l))))
+
+  pub sum-below : (x y : Float) → Power x → Power y → lt (add f x y) b ≡ true → (lt x b ≡ true) × (lt y b ≡ true)
+  sum-below x y p q l =
+      let n = lt-number (add f x y) b l in
+      let t = terms f x y n in
+      (go (lt x b) (λ e. add-left x y p q n (total x b (t .0) number e)), go (lt y b) (λ e. add-right x y p q n (total y b (t .1) number e)))
+    where
+      number : T (not (isNan b))
+      number = positive-number b B
+
+      go : (w : Bool) → (w ≡ false → T (le b (add f x y))) → w ≡ true
+      go true h = refl
+      go false h = absurd (true≢false (sym l ∙ apart b (add f x y) B (h refl)))
 
 -- ---- a square
 

@@ -1,4 +1,4 @@
--- Tests on floats: what `x != x` says, that a narrowed number fits and is a NaN only where it was one, and the absolute value by two comparisons. Assumes nothing.
+-- Tests on floats: what `x != x` says and a sum tells, that a narrowed number fits and is a NaN only where it was one, and the absolute value by two comparisons. Assumes nothing.
 use mathlib.Core.Path.{_≡_, refl, sym, ap, _∙_, subst}
 use Prim.Native.Nat.{ℕ, zero, suc, _+_, _*_, _%_, _^_, _≤_, _<_}
 use native.Mathlib.Nat.{lt-irrefl, zero-lt-suc, zero-mul, one-mul, mul-one, mul-pos, pow-succ'}
@@ -8,7 +8,7 @@ use lib.Dec.{T, ltb, eqb, eqb→eq}
 use lib.Pow.{pow-pos}
 use lib.IntN.{ℤ, pos, negsuc}
 use borrow.Author.Tests.{eq-eqb, lt-ltb, le-ltb, ltb-true, ltb-false, eqb-true}
-use lib.Ieee.{Float, nan, inf, fin, Format, binary32, prec, emax, low, hid, ones, top, up, down, odd, units, round, fits, isNan, neg, lt, eq, ne, ofBits, toBits, nanBits}
+use lib.Ieee.{Float, nan, inf, fin, Format, binary32, prec, emax, low, hid, ones, top, up, down, odd, units, round, add, fits, isNan, neg, lt, eq, ne, ofBits, toBits, nanBits}
 use lib.Ieee.Fits.{round-is, round-fits, nan-fits, inf-fits, up-pos}
 use lib.Ieee.Bits.{ofBits-toBits, nanBits-is, nanBits-above}
 use Rattle.numbers.specs.Order.{absOf}
@@ -38,6 +38,17 @@ nan-test x h = is-nan x (ne-self x ∙ h)
 
 pub no-nan : (x : Float) → ne x x ≡ false → T (not (isNan x))
 no-nan x e = subst (λ (b : Bool). T (not b)) (sym (sym (ne-self x) ∙ e)) tt
+
+-- a sum that is no NaN has no term that is one
+pub terms : (f : Format) (x y : Float) → T (not (isNan (add f x y))) → T (not (isNan x)) × T (not (isNan y))
+unfolding add isNan
+terms f nan y h = absurd h
+terms f (inf s) nan h = absurd h
+terms f (inf s) (inf t) h = (tt, tt)
+terms f (inf s) (fin t n d) h = (tt, tt)
+terms f (fin s m e) nan h = absurd h
+terms f (fin s m e) (inf t) h = (tt, tt)
+terms f (fin s m e) (fin t n d) h = (tt, tt)
 
 -- ---- a narrowed number
 

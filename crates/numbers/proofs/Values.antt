@@ -2,16 +2,18 @@
 --     unique        two values of a format with one sign and one size are the same
 --     round-back    a value of a format, rounded to that format, is itself; round-to by any fraction of that size
 --     sub-zero      x - 0.0 is x, at every x, -0.0 included
+--     mul-value, sub-value    a product and a difference of numbers that are known as fractions, before they are rounded
+--     rescale       from one fraction to another of the same size
 use mathlib.Core.Path.{_≡_, refl, sym, ap, _∙_, subst}
 use Prim.Native.Nat.{ℕ, zero, suc, _+_, _-_, _*_, _/_, _%_, _^_, _≤_, _<_, zero-le}
-use native.Mathlib.Nat.{le-of-eq, lt-of-lt-of-le, lt-of-not-le, lt-irrefl, add-comm, add-zero, mul-assoc, mul-comm, mul-right-comm, mul-one, zero-mul, mul-lt-mul-of-pos-right, sub-zero as nat-sub-zero}
+use native.Mathlib.Nat.{le-of-eq, le-of-lt, lt-of-lt-of-le, lt-of-not-le, lt-irrefl, add-comm, add-zero, mul-assoc, mul-comm, mul-right-comm, mul-mul-mul-comm, mul-one, mul-pos, mul-sub, zero-mul, mul-lt-mul-of-pos-right, lt-of-mul-lt-mul-right, eq-of-mul-eq-mul-right, sub-zero as nat-sub-zero}
 use native.Mathlib.Omega.{arith}
-use mathlib.Core.Bool.{Bool, true, false, _&&_, cond}
+use mathlib.Core.Bool.{Bool, true, false, not, _&&_, cond}
 use lib.Dec.{T, ltb, leb, eqb, ltb→lt, leb→le, eqb→eq}
 use lib.IntN.{ℤ, pos, negsuc}
 use lib.Pow.{pow-add, pow-pos, pow-lt, shl-lt}
-use borrow.Author.Tests.{le-ltb}
-use lib.Ieee.{Float, nan, inf, fin, Format, prec, emax, low, hid, top, up, down, size, round, sub, fits, ofBits, toBits}
+use borrow.Author.Tests.{lt-ltb, le-ltb}
+use lib.Ieee.{Float, nan, inf, fin, Format, prec, emax, low, hid, top, unlike, up, down, size, round, sum, neg, add, sub, mul, fits, ofBits, toBits}
 use lib.Ieee.Fits.{round-fits, and-l, and-r, down-pos}
 use lib.Ieee.Bits.{ofBits-toBits}
 use lib.Ieee.Exact.{HasValue, round-exact}
@@ -99,3 +101,58 @@ sub-zero f (fin true m e) h = round-to f true m e (m * up e * 1 + 0 * down e) (d
 sub-zero f (fin false m e) h =
     ap (λ (b : Bool). cond b (round f true (0 * down e - m * up e * 1) (down e * 1)) (round f false (m * up e * 1 - 0 * down e) (down e * 1))) (le-ltb (m * up e * 1) (0 * down e) (subst (λ (z : ℕ). z ≤ m * up e * 1) (sym (zero-mul (down e))) zero-le))
     ∙ round-to f false m e (m * up e * 1 - 0 * down e) (down e * 1) (one-more e) h (simp (mul-one, zero-mul, nat-sub-zero))
+
+-- ---- a product and a difference of numbers that are known as fractions
+
+pub mul-value : (f : Format) (x y : Float) (s t : Bool) (a c b d : ℕ) → 0 < c → 0 < d → HasValue x s a c → HasValue y t b d → mul f x y ≡ round f (unlike s t) (a * b) (c * d)
+unfolding mul
+mul-value f nan y s t a c b d C D h k = absurd h
+mul-value f (inf u) y s t a c b d C D h k = absurd h
+mul-value f (fin u m e) nan s t a c b d C D h k = absurd k
+mul-value f (fin u m e) (inf v) s t a c b d C D h k = absurd k
+mul-value f (fin u m e) (fin v n g) s t a c b d C D h k =
+    round-same f (unlike u v) (m * up e * (n * up g)) (down e * down g) (a * b) (c * d) (mul-pos (down-pos e) (down-pos g)) (mul-pos C D)
+    (mul-mul-mul-comm (m * up e) (n * up g) c d ∙ ap (λ (z : ℕ). z * (n * up g * d)) (h .1) ∙ ap (λ (z : ℕ). a * down e * z) (k .1) ∙ mul-mul-mul-comm a (down e) b (down g))
+    ∙ ap (λ (z : Bool). round f (unlike z v) (a * b) (c * d)) (h .0)
+    ∙ ap (λ (z : Bool). round f (unlike s z) (a * b) (c * d)) (k .0)
+
+pub sub-mul : (a b c : ℕ) → (a - b) * c ≡ a * c - b * c
+sub-mul a b c = mul-comm (a - b) c ∙ mul-sub c a b ∙ ap (λ (z : ℕ). z - c * b) (mul-comm c a) ∙ ap (λ (z : ℕ). a * c - z) (mul-comm c b)
+
+-- of two with one sign, the larger first
+sum-less : (f : Format) (s : Bool) (a b c : ℕ) → b < a → sum f s a (not s) b c ≡ round f s (a - b) c
+unfolding sum
+sum-less f true a b c h = rw (le-ltb a b (le-of-lt h), lt-ltb b a h)
+sum-less f false a b c h = rw (le-ltb a b (le-of-lt h))
+
+pub sub-value : (f : Format) (x y : Float) (s : Bool) (a b c : ℕ) → 0 < c → HasValue x s a c → HasValue y s b c → b < a → sub f x y ≡ round f s (a - b) c
+unfolding sub add neg
+sub-value f nan y s a b c C h k l = absurd h
+sub-value f (inf u) y s a b c C h k l = absurd h
+sub-value f (fin u m e) nan s a b c C h k l = absurd k
+sub-value f (fin u m e) (inf v) s a b c C h k l = absurd k
+sub-value f (fin u m e) (fin v n g) s a b c C h k l =
+    let A = m * up e * down g in
+    let B = n * up g * down e in
+    let W = down e * down g in
+    let p : A * c ≡ a * W = mul-right-comm (m * up e) (down g) c ∙ ap (λ (z : ℕ). z * down g) (h .1) ∙ mul-assoc a (down e) (down g) in
+    let q : B * c ≡ b * W = mul-right-comm (n * up g) (down e) c ∙ ap (λ (z : ℕ). z * down e) (k .1) ∙ mul-assoc b (down g) (down e) ∙ ap (λ (z : ℕ). b * z) (mul-comm (down g) (down e)) in
+    let less : B * c < A * c = subst (λ (z : ℕ). z < A * c) (sym q) (subst (λ (z : ℕ). b * W < z) (sym p) (mul-lt-mul-of-pos-right l (mul-pos (down-pos e) (down-pos g)))) in
+    ap (λ (z : Bool). sum f z A (not v) B W) (h .0)
+    ∙ ap (λ (z : Bool). sum f s A (not z) B W) (k .0)
+    ∙ sum-less f s A B W (lt-of-mul-lt-mul-right c less)
+    ∙ round-same f s (A - B) W (a - b) c (mul-pos (down-pos e) (down-pos g)) C (sub-mul A B c ∙ ap (λ (z : ℕ). z - B * c) p ∙ ap (λ (z : ℕ). a * W - z) q ∙ sym (sub-mul a b W))
+
+-- from one fraction to another of the same size
+pub rescale : (x : Float) (s : Bool) (w l num den : ℕ) → 0 < l → num * l ≡ w * den → HasValue x s w l → HasValue x s num den
+rescale nan s w l num den p h v = v
+rescale (inf t) s w l num den p h v = v
+rescale (fin t m e) s w l num den p h v = (
+  v .0,
+  eq-of-mul-eq-mul-right l p (m * up e * den) (num * down e)
+      (mul-right-comm (m * up e) den l
+      ∙ ap (λ (x : ℕ). x * den) (v .1)
+      ∙ mul-right-comm w (down e) den
+      ∙ ap (λ (x : ℕ). x * down e) (sym h)
+      ∙ mul-right-comm num l (down e)),
+)

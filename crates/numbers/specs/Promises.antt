@@ -3,12 +3,11 @@
 -- that of the name without the width.
 use mathlib.Core.Path.{_≡_}
 use mathlib.Core.Bool.{Bool}
-use Prim.Native.Nat.{ℕ, _%_, _^_, min}
+use Prim.Native.Nat.{ℕ, min}
 use lib.Ieee.{Float, binary32, binary64, ofBits, toBits}
-use lib.Ieee.Nearest.{closest}
 use Rattle.numbers.specs.Order.{absOf, minOf, maxOf, clampOf}
 use Rattle.numbers.specs.Finite.{isFinite, finiteOrZero}
-use Rattle.numbers.specs.Narrowing.{narrowOf}
+use Rattle.numbers.specs.Narrowing.{narrowOf, isPlain, plainSquares, roundedOf}
 
 -- ---- sizes and the order
 
@@ -46,8 +45,14 @@ Narrow x r = r ≡ narrowOf x
 abbrev pub NarrowBits : Float → ℕ → Type 0
 NarrowBits x r = r ≡ toBits binary32 (narrowOf x)
 
-abbrev pub DropLow : ℕ → ℕ → Type 0
-DropLow m r = r ≡ closest (m % 2 ^ 63) (2 ^ 29)
+abbrev pub IsPlain : Float → Bool → Type 0
+IsPlain x r = r ≡ isPlain x
+
+abbrev pub PlainSquares : Float → Float → Bool → Type 0
+PlainSquares least most r = r ≡ plainSquares least most
+
+abbrev pub Rounded : Float → Float → Type 0
+Rounded x r = r ≡ roundedOf x
 
 -- ---- bits
 

@@ -1,9 +1,13 @@
-// From f32 to f64, which is exact, and from f64 to f32, which rounds once, from the bits.
+// From f32 to f64, which is exact, and from f64 to f32, which rounds once.
+use crate::bits::to_bits32;
 ghost use mathlib.Core.Path.{_≡_};
+ghost use mathlib.Core.Bool.{not};
 ghost use Prim.Native.Nat.{_<_, _^_};
+ghost use lib.Dec.{T};
+ghost use lib.Ieee.{isNan};
 ghost use lib.Ieee.Nearest.{closest};
 ghost use Rattle.numbers.specs.Narrowing.{magOf};
-ghost use Rattle.numbers.specs.Promises.{Widen, Narrow, NarrowBits, DropLow};
+ghost use Rattle.numbers.specs.Promises.{Widen, Narrow, NarrowBits, IsPlain, PlainSquares, Rounded};
 
 // The same number. Nothing is rounded, so the logic has one value for both.
 pub fn widen(x: f32) -> f64
@@ -16,19 +20,56 @@ pub fn widen(x: f32) -> f64
 pub fn narrow(x: f64) -> f32
     ensures { λ r. ⌜ Narrow x r ⌝ }
 {
+    if is_plain(x) {
+        return rounded(x) as f32;
+    }
     if x != x {
         return 0.0 / 0.0;
     }
-    f32::from_bits(narrow_bits(x))
+    f32::from_bits(bits_by_fields(x))
 }
 
 // The bits of the f32 nearest to x. A NaN gives 7FC00000.
 pub fn narrow_bits(x: f64) -> u32
     ensures { λ r. ⌜ NarrowBits x r ⌝ }
 {
-    if x != x {
-        return 0x7fc0_0000;
+    to_bits32(narrow(x))
+}
+
+// Whether x is well inside the f32 normal range, so that it can go the short way, `rounded`: a size from 2^-126 up to 2^127.
+pub fn is_plain(x: f64) -> bool
+    ensures { λ r. ⌜ IsPlain x r ⌝ }
+{
+    let square = x * x;
+    plain_squares(square, square)
+}
+
+// Whether a least square is at least 2^-252 and another, or a sum that bounds it, below 2^254: then a number whose square is between the
+// two is plain. By squares: they need no sign taken off, a NaN fails, and the squares of many numbers are added and compared at once.
+pub fn plain_squares(least: f64, most: f64) -> bool
+    ensures { λ r. ⌜ PlainSquares least most r ⌝ }
+{
+    if 1.3817869688151111e-76 <= least {
+        return most < 2.894802230932905e76;
     }
+    false
+}
+
+// x to the nearest number of 24 digits, at a tie to the even one, if x is plain or a zero: the f32 nearest to it, still as an f64. The
+// product is x moved up by 29 digits and x itself, to the nearest number of 53 digits, so the last 29 of x are rounded off; what the
+// product has more than x is taken off it again. No bits, no branch: the compiler does it to several numbers at once.
+pub fn rounded(x: f64) -> f64
+    ensures { λ r. ⌜ Rounded x r ⌝ }
+{
+    let product = x * 536870913.0;
+    product - (product - x)
+}
+
+// The bits of the f32 nearest to x, by the fields of its own: for whatever is not plain.
+fn bits_by_fields(x: f64) -> u32
+    requires { ⌜ T (not (isNan x)) ⌝ }
+    ensures { λ r. ⌜ NarrowBits x r ⌝ }
+{
     let bits = f64::to_bits(x);
     let sign = bits / 0x8000_0000_0000_0000 * 0x8000_0000;
     let exponent = bits % 0x8000_0000_0000_0000 / 0x10_0000_0000_0000;
@@ -53,22 +94,12 @@ fn magnitude(exponent: u64, digits: u64) -> u64
         return half_even(m, unit);
     }
     if exponent < 1151 {
-        return (exponent - 897) * 0x80_0000 + drop_low(m);
+        return (exponent - 897) * 0x80_0000 + half_even(m, 0x2000_0000);
     }
     0x7f80_0000
 }
 
-// m without its top bit, over 2^29, to the nearest whole number, and at a tie to the even one. The top bit of an f64's bits is the
-// sign's; with it off no sum is too large. No branch: on sound, which way it rounds is a coin's throw, and a processor that guesses
-// wrong half the time takes three times as long.
-pub fn drop_low(m: u64) -> u64
-    ensures { λ r. ⌜ DropLow m r ⌝ }
-{
-    let size = m % 0x8000_0000_0000_0000;
-    (size + 0xfff_ffff + size / 0x2000_0000 % 2) / 0x2000_0000
-}
-
-// m / unit to the nearest whole number, and at a tie to the even one. Only for subnormal results, which are rare.
+// m / unit to the nearest whole number, and at a tie to the even one.
 fn half_even(m: u64, unit: u64) -> u64
     requires { ⌜ 0 < unit ⌝ ∗ ⌜ m < 2 ^ 53 ⌝ }
     ensures { λ r. ⌜ r ≡ closest m unit ⌝ }

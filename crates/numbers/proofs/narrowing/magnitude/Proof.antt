@@ -10,10 +10,6 @@ use borrow.Author.Needs.{needs}
 use Rattle.numbers.proofs.narrowing.magnitude.Statement.{statement}
 use Rattle.numbers.proofs.narrowing.magnitude.Tie as tie
 
--- a number of 53 digits has no top bit to lose
-whole : (m : ℕ) → m < 2 ^ 53 → closest (m % 2 ^ 63) (2 ^ 29) ≡ closest m (2 ^ 29)
-whole m l = let e : m % 2 ^ 63 ≡ m = omega arith in ap (λ (z : ℕ). closest z (2 ^ 29)) e
-
 returns : tie.Need-returns
 returns c = (sym (mag-tiny (c .before .args .exponent) (c .before .args .digits) (c .if1 .taken)), lit< tt)
 
@@ -46,8 +42,8 @@ returns-2 c =
 mul-result : tie.Need-mul-result
 mul-result c = search needs
 
-drop-low-requires : tie.Need-drop-low-requires
-drop-low-requires c κs = search needs
+half-even-requires-2 : tie.Need-half-even-requires-2
+half-even-requires-2 c κs = search needs
 
 add-result : tie.Need-add-result
 add-result c =
@@ -55,7 +51,7 @@ add-result c =
     let t = c .before .before .before .before .args .digits in
     let k : e < 1151 = c .before .if3 .taken in
     let m : 2 ^ 52 + t < 2 ^ 53 = omega arith in
-    let q = c .drop-low .ensures ∙ whole (2 ^ 52 + t) m in
+    let q = c .half-even2 .ensures in
     let b = closest-le (2 ^ 52 + t) 29 m (lit≤ tt) in
     omega (arith, k, b, q)
 
@@ -66,7 +62,7 @@ returns-3 c =
     let l : 897 ≤ e = c .before .before .if2 .left in
     let k : e < 1151 = c .before .if3 .taken in
     let m : 2 ^ 52 + t < 2 ^ 53 = omega arith in
-    let q : c .drop-low .result ≡ closest (2 ^ 52 + t) (2 ^ 29) = c .drop-low .ensures ∙ whole (2 ^ 52 + t) m in
+    let q : c .half-even2 .result ≡ closest (2 ^ 52 + t) (2 ^ 29) = c .half-even2 .ensures in
     let b = closest-le (2 ^ 52 + t) 29 m (lit≤ tt) in
     (ap (λ (z : ℕ). (e - 897) * 2 ^ 23 + z) q ∙ sym (mag-mid e t l k), omega (arith, k, b, q))
 
@@ -84,7 +80,7 @@ magnitude-spec =
     half-even-requires
     returns-2
     mul-result
-    drop-low-requires
+    half-even-requires-2
     add-result
     returns-3
     returns-4)

@@ -2,8 +2,7 @@
 use mathlib.Core.Path.{_≡_, refl, sym}
 use mathlib.Core.Bool.{Bool, true, false, not}
 use borrow.Author.Needs.{needs}
-use lib.Ieee.{binary32}
-use Rattle.narrow_list.proofs.NoNan.{all}
+use Rattle.rho_taps.proofs.NoNan.{all}
 use Rattle.rho_taps.proofs.clean.clean.Statement.{statement}
 use Rattle.rho_taps.proofs.clean.clean.Tie as tie
 
@@ -24,4 +23,4 @@ clean-spec =
     (λ c. search needs)
     (λ c. search needs)
     (λ c. search needs)
-    (λ c h. let a = c .before .before .args in all binary32 (a .xs .now) (a .at) (c .lanes .result) (c .lanes .ensures) (off _ h)))
+    (λ c h. let a = c .before .before .args in all (a .xs .now) (a .at) (c .lanes .result) (c .lanes .ensures) (off _ h)))

@@ -1,0 +1,82 @@
+-- What goes the short way: it is rounded to the narrowed number, and its square tells it. Assumes nothing.
+--     fit-rounded, fit-number         what is rounded is the narrowed number, and no NaN
+--     fit-square, fit-past-zero       by its square, and by that with zeros passed over
+--     each-plain                      32 squares by their least and their sum
+use mathlib.Core.Path.{_≡_, refl, sym, _∙_, subst}
+use mathlib.Core.Bool.{true, not}
+use mathlib.Core.List.{List}
+use Prim.Native.Nat.{ℕ, _<_}
+use lib.Dec.{T}
+use lib.Ieee.{Float, nan, inf, fin, binary64, add, lt, eq, le, fits, isNan}
+use lib.Ieee.Bits.{is-true}
+use lib.Ieee.Fits.{and-i, and-l, and-r}
+use lib.ListN.{getD}
+use Rattle.laws.specs.Choice.{pick-if}
+use Rattle.numbers.specs.Finite.{plus}
+use Rattle.numbers.specs.Narrowing.{narrowOf, lowSquare, highSquare, plainSquares, roundedOf}
+use Rattle.numbers.specs.Ranges.{one, Power}
+use Rattle.numbers.specs.Zeros.{Zero}
+use Rattle.numbers.proofs.Plain.{plain-is, plain-rounded, plain-number, zero-rounded}
+use Rattle.numbers.proofs.Ordered.{lesser-above, lt-number}
+use Rattle.numbers.proofs.Ranged.{power-square, power-add}
+use Rattle.numbers.proofs.Squares.{sum-below}
+use Rattle.numbers.proofs.Zeros.{zero-of-eq}
+use Rattle.narrow_list.specs.Lanes.{lesserOf, laneOf, gathered}
+use Rattle.narrow_list.specs.Short.{Fit, squareOf, squarePastZero}
+use Rattle.narrow_list.proofs.Lanes.{all}
+
+zero-number : (x : Float) → Zero x → T (not (isNan x))
+unfolding isNan
+zero-number nan z = absurd (z .zero)
+zero-number (inf s) z = absurd (z .zero)
+zero-number (fin s m e) z = tt
+
+module _ (x : Float) (f : T (fits binary64 x)) where
+  pub fit-rounded : Fit x → roundedOf x ≡ narrowOf x
+  fit-rounded (Fit.plain p) = plain-rounded x f p
+  fit-rounded (Fit.none z) = zero-rounded x f z
+
+  pub fit-number : Fit x → T (not (isNan x))
+  fit-number (Fit.plain p) = plain-number x f p
+  fit-number (Fit.none z) = zero-number x z
+
+  pub fit-square : plainSquares (squareOf x) (squareOf x) ≡ true → Fit x
+  fit-square h = Fit.plain (sym (plain-is x f) ∙ h)
+
+  pub fit-past-zero : plainSquares (squarePastZero x) (squarePastZero x) ≡ true → Fit x
+  fit-past-zero = pick-if (λ (q : Float). plainSquares q q ≡ true → Fit x) (eq x plus) (λ e h. Fit.none (zero-of-eq x e)) (λ e h. fit-square h)
+
+one-power : Power one
+one-power = record { power = tt }
+
+pub power-past-zero : (x : Float) → Power (squarePastZero x)
+power-past-zero x = pick-if Power (eq x plus) (λ e. one-power) (λ e. power-square binary64 x)
+
+-- ---- 32 squares by their least and their sum
+
+high-fits : T (fits binary64 highSquare)
+unfolding fits
+high-fits = tt
+
+module _ (q : List Float) (powers : (k : ℕ) → k < 32 → Power (getD q k nan)) (h : plainSquares (gathered lesserOf q) (gathered (add binary64) q) ≡ true) where
+  low : T (le lowSquare (gathered lesserOf q))
+  unfolding plainSquares
+  low = and-l (le lowSquare (gathered lesserOf q)) (lt (gathered (add binary64) q) highSquare) (subst T (sym h) tt)
+
+  high : lt (gathered (add binary64) q) highSquare ≡ true
+  unfolding plainSquares
+  high = is-true _ (and-r (le lowSquare (gathered lesserOf q)) (lt (gathered (add binary64) q) highSquare) (subst T (sym h) tt))
+
+  below : (k : ℕ) → k < 32 → lt (getD q k nan) highSquare ≡ true
+  below =
+      all (add binary64) Power (λ x. lt x highSquare ≡ true) (λ x y a b. power-add binary64 a b) (sum-below binary64 highSquare tt high-fits)
+      (λ k. getD q k nan) (laneOf (add binary64) q) powers (λ k l. refl) high
+
+  above : (k : ℕ) → k < 32 → T (le lowSquare (getD q k nan))
+  above =
+      all lesserOf (λ x. T (not (isNan x))) (λ x. T (le lowSquare x)) (λ x y a b. pick-if (λ z. T (not (isNan z))) (lt x y) (λ e. a) (λ e. b)) (λ x y a b. lesser-above lowSquare x y tt a b)
+      (λ k. getD q k nan) (laneOf lesserOf q) (λ k l. lt-number (getD q k nan) highSquare (below k l)) (λ k l. refl) low
+
+  pub each-plain : (k : ℕ) → k < 32 → plainSquares (getD q k nan) (getD q k nan) ≡ true
+  unfolding plainSquares
+  each-plain k l = is-true _ (and-i (le lowSquare (getD q k nan)) (lt (getD q k nan) highSquare) (above k l) (subst T (sym (below k l)) tt))
