@@ -61,6 +61,8 @@ enum aspeyruni_refusal {
 float aspeyruni_narrow(double x);
 /* The bits of that f32; for a NaN 7FC00000. */
 uint32_t aspeyruni_narrow_bits(double x);
+/* A list: number k of xs narrowed to place k of out, as far as both go; the rest of out stays. Several numbers are narrowed at once. */
+void aspeyruni_narrow_list(const double *xs, size_t xs_len, float *out, size_t out_len);
 
 /* 512 samples to 514 numbers, 257 bins real part then imaginary, and back; 256 complex points in place, 512 numbers. They answer
  * ASPEYRUNI_ACCEPTED or ASPEYRUNI_REFUSED_BUFFER. */

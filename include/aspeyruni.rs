@@ -85,6 +85,7 @@ macro_rules! answer {
 unsafe extern "C" {
     fn aspeyruni_narrow(x: f64) -> f32;
     fn aspeyruni_narrow_bits(x: f64) -> u32;
+    fn aspeyruni_narrow_list(xs: *const f64, xs_len: usize, out: *mut f32, out_len: usize);
     fn aspeyruni_forward(from: *const f32, from_len: usize, to: *mut f64, to_len: usize) -> u32;
     fn aspeyruni_inverse(from: *const f64, from_len: usize, to: *mut f32, to_len: usize) -> u32;
     fn aspeyruni_complex_forward(points: *mut f64, points_len: usize) -> u32;
@@ -99,6 +100,12 @@ pub fn narrow(x: f64) -> f32 {
 /// The bits of that f32; for a NaN 7FC00000.
 pub fn narrow_bits(x: f64) -> u32 {
     unsafe { aspeyruni_narrow_bits(x) }
+}
+
+/// A list: number k of `xs` narrowed to place k of `out`, as far as both go; the rest of `out` stays. Several numbers are narrowed at once.
+pub fn narrow_list(xs: &[f64], out: &mut [f32]) {
+    let (to, to_len) = (out.as_mut_ptr(), out.len());
+    unsafe { aspeyruni_narrow_list(xs.as_ptr(), xs.len(), to, to_len) }
 }
 
 /// 512 samples to 514 numbers, 257 bins real part then imaginary. It answers `refusal::ACCEPTED` or `BUFFER`, as do the three below.

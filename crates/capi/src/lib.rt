@@ -14,6 +14,7 @@ pub use tau_calls::aspeyruni_tau_process;
 pub use tau_calls::aspeyruni_tau_reset;
 ghost use Rattle.numbers.specs.Promises.{Narrow, NarrowBits};
 ghost use Rattle.complex_fft.specs.Promises.{ComplexForward, ComplexInverse};
+ghost use Rattle.narrow_list.specs.Promises.{NarrowInto};
 ghost use Rattle.fft.specs.Promises.{Forward, Inverse};
 ghost use Rattle.rho.specs.Promises.{Create, Process, Flush, Reset};
 
@@ -29,6 +30,14 @@ pub extern "C" fn aspeyruni_narrow_bits(x: f64) -> u32
     ensures { λ r. ⌜ NarrowBits x r ⌝ }
 {
     numbers::narrow_bits(x)
+}
+
+// xs number by number into the first places of out, as many as both have.
+#[no_mangle]
+pub extern "C" fn aspeyruni_narrow_list(xs: &[f64], out: &mut [f32])
+    ensures { λ _. ⌜ NarrowInto (now (xs .entry)) (now (out .entry)) (now (out .exit)) ⌝ }
+{
+    narrow_list::narrow_into(xs, out)
 }
 
 // 512 samples to 514 numbers, 257 bins real part then imaginary. 0, or 2 with nothing written where a length is wrong.

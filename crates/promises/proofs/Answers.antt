@@ -7,7 +7,7 @@ one : {A : Type 0} (d : A) → One A (λ r. r ≡ d)
 one d r s h k = h ∙ sym k
 
 pub numbers : Numbers
-numbers x y z b m n xs out = (one _, one _, one _, one _, one _, one _, one _, one _, one _, one _, one _, one _, one _, one _, one _, one _)
+numbers x y z b m n xs out = (one _, one _, one _, one _, one _, one _, one _, one _, one _, one _, one _, one _, one _, one _, one _, one _, one _, one _)
 
 pub tables : Tables
 tables x = (one _, one _, one _, one _)

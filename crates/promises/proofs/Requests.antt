@@ -5,15 +5,40 @@ use Prim.Native.Nat.{ℕ, _+_, _≤_, min}
 use native.Mathlib.Omega.{arith}
 use borrow.Author.Tests.{ltb-true, ltb-false}
 use lib.Dec.{T, ltb}
-use lib.Ieee.{eq}
+use lib.Ieee.{nan, inf, eq, toBits}
 use Rattle.laws.specs.Choice.{pick-if}
+use Rattle.numbers.specs.Narrowing.{isPlain}
+use Rattle.numbers.proofs.Plain.{plain-is, plain-size, plain-rounded, plain-finite, zero-rounded}
 use Rattle.tau_state.specs.Constants.{zero64}
 use Rattle.tau_state.specs.Sums.{energyOf}
 use Rattle.tau_state.specs.declared.state.Detector.{Detector}
 use Rattle.tau_detector.specs.Detector.{countOf, learned, stands}
 use Rattle.tau_steps.proofs.Energy.{energy-zeros}
 use Rattle.tau_block_laws.proofs.Muted.{muted-block, heard-block}
-use Rattle.promises.specs.Requests.{AsItWas, MutedStands, HeardLearns, LearnedCounts, MutedSamples}
+use Rattle.promises.specs.Requests.{PlainSizes, PlainBySquare, ShortWay, PlainStaysFinite, AsItWas, MutedStands, HeardLearns, LearnedCounts, MutedSamples}
+
+-- ---- K3
+
+top-is : (s : Bool) → isPlain (inf s) ≡ false
+unfolding isPlain toBits
+top-is true = refl
+top-is false = refl
+
+nan-is : isPlain nan ≡ false
+unfolding isPlain toBits
+nan-is = refl
+
+pub plain-sizes : PlainSizes
+plain-sizes = (plain-size, top-is, nan-is)
+
+pub plain-by-square : PlainBySquare
+plain-by-square = plain-is
+
+pub short-way : ShortWay
+short-way x f = (plain-rounded x f, zero-rounded x f)
+
+pub plain-stays-finite : PlainStaysFinite
+plain-stays-finite = plain-finite
 
 -- ---- K5
 

@@ -7,7 +7,7 @@ use mathlib.Core.Bool.{Bool}
 use mathlib.Core.List.{List}
 use Prim.Native.Nat.{ℕ}
 use lib.Ieee.{Float}
-use Rattle.numbers.specs.Promises.{Abs, Min, Max, Clamp, Lesser, IsFinite, FiniteOrZero, Widen, Narrow, NarrowBits, DropLow}
+use Rattle.numbers.specs.Promises.{Abs, Min, Max, Clamp, Lesser, IsFinite, FiniteOrZero, Widen, Narrow, NarrowBits, IsPlain, PlainSquares, Rounded}
 use Rattle.numbers.specs.Promises.{FromBits, FromBits32, ToBits, ToBits32}
 use Rattle.narrow_list.specs.Promises.{NarrowInto}
 use Rattle.trig.specs.Promises.{DetSin, DetCos, Recombination}
@@ -56,7 +56,9 @@ Numbers = (x y z : Float) (b m n : ℕ) (xs out : List Float)
     × One Float (Widen x)
     × One Float (Narrow x)
     × One ℕ (NarrowBits x)
-    × One ℕ (DropLow b)
+    × One Bool (IsPlain x)
+    × One Bool (PlainSquares x y)
+    × One Float (Rounded x)
     × One Float (FromBits b)
     × One Float (FromBits32 b)
     × One ℕ (ToBits x)

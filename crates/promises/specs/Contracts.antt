@@ -20,7 +20,7 @@ use denote.Ref.{RefT, now}
 use denote.Triple.Entry.{Args, Res}
 use denote.Triple.Clauses.{Ended, Clauses, AtExit}
 use Rattle.numbers.proofs as numbers
-use Rattle.numbers.specs.Promises.{Abs, Min, Max, Clamp, Lesser, IsFinite, FiniteOrZero, Widen, Narrow, NarrowBits, DropLow}
+use Rattle.numbers.specs.Promises.{Abs, Min, Max, Clamp, Lesser, IsFinite, FiniteOrZero, Widen, Narrow, NarrowBits, IsPlain, PlainSquares, Rounded}
 use Rattle.numbers.specs.Promises.{FromBits, FromBits32, ToBits, ToBits32}
 use Rattle.narrow_list.proofs as narrowList
 use Rattle.narrow_list.specs.Promises.{NarrowInto}
@@ -97,7 +97,9 @@ module _ {M : Type 1} (𝓤 : URA M) (H : Heap 𝓤) (A : Atoms 𝓤) (mem : Mem
       × Says numbers.widen.ended (numbers.widen.clauses 𝓤 H A mem run) (λ _ (x, _) r _. Widen x r)
       × Says numbers.narrow.ended (numbers.narrow.clauses 𝓤 H A mem run) (λ _ (x, _) r _. Narrow x r)
       × Says numbers.«narrow_bits».ended (numbers.«narrow_bits».clauses 𝓤 H A mem run) (λ _ (x, _) r _. NarrowBits x r)
-      × Says numbers.«drop_low».ended (numbers.«drop_low».clauses 𝓤 H A mem run) (λ _ (m, _) r _. DropLow m r)
+      × Says numbers.«is_plain».ended (numbers.«is_plain».clauses 𝓤 H A mem run) (λ _ (x, _) r _. IsPlain x r)
+      × Says numbers.«plain_squares».ended (numbers.«plain_squares».clauses 𝓤 H A mem run) (λ _ (least, (most, _)) r _. PlainSquares least most r)
+      × Says numbers.rounded.ended (numbers.rounded.clauses 𝓤 H A mem run) (λ _ (x, _) r _. Rounded x r)
       × Says numbers.«from_bits».ended (numbers.«from_bits».clauses 𝓤 H A mem run) (λ _ (b, _) r _. FromBits b r)
       × Says numbers.«from_bits32».ended (numbers.«from_bits32».clauses 𝓤 H A mem run) (λ _ (b, _) r _. FromBits32 b r)
       × Says numbers.«to_bits».ended (numbers.«to_bits».clauses 𝓤 H A mem run) (λ _ (x, _) r _. ToBits x r)
@@ -174,6 +176,7 @@ module _ {M : Type 1} (𝓤 : URA M) (H : Heap 𝓤) (A : Atoms 𝓤) (mem : Mem
   Hosts =
       (capi.«aspeyruni_narrow».clauses 𝓤 H A mem run ≡ numbers.narrow.clauses 𝓤 H A mem run)
       × (capi.«aspeyruni_narrow_bits».clauses 𝓤 H A mem run ≡ numbers.«narrow_bits».clauses 𝓤 H A mem run)
+      × (capi.«aspeyruni_narrow_list».clauses 𝓤 H A mem run ≡ narrowList.«narrow_into».clauses 𝓤 H A mem run)
       × (capi.«aspeyruni_forward».clauses 𝓤 H A mem run ≡ fft.forward.clauses 𝓤 H A mem run)
       × (capi.«aspeyruni_inverse».clauses 𝓤 H A mem run ≡ fft.inverse.clauses 𝓤 H A mem run)
       × (capi.«aspeyruni_complex_forward».clauses 𝓤 H A mem run ≡ complexFft.«complex_forward».clauses 𝓤 H A mem run)

@@ -1,12 +1,15 @@
 -- What is promised of the requests that came after document 01, besides what they changed in its rules: those stand in the definitions,
 -- each beside the sentence that it mends. Statements; proved in proofs/Requests.antt.
 use mathlib.Core.Path.{_≡_}
-use mathlib.Core.Bool.{Bool, true, false, _||_}
+use mathlib.Core.Bool.{Bool, true, false, _&&_, _||_}
 use mathlib.Core.List.{List}
-use Prim.Native.Nat.{ℕ, _+_, _≤_, _<_, min}
-use lib.Dec.{T}
+use Prim.Native.Nat.{ℕ, _+_, _*_, _^_, _≤_, _<_, min}
+use lib.Dec.{T, leb, ltb}
+use lib.IntN.{ℤ}
 use lib.ListN.{getD}
-use lib.Ieee.{Float, nan, eq}
+use lib.Ieee.{Float, nan, inf, fin, binary64, up, down, mul, eq, fits}
+use Rattle.numbers.specs.Finite.{isFinite}
+use Rattle.numbers.specs.Narrowing.{narrowOf, isPlain, plainSquares, roundedOf}
 use Rattle.numbers.specs.Zeros.{Zero, Fits}
 use Rattle.tau_state.specs.Constants.{zero64}
 use Rattle.tau_state.specs.Sums.{energyOf, crossOf}
@@ -16,6 +19,30 @@ use Rattle.tau_spectra.specs.Ring.{ringOf}
 use Rattle.tau_spectra.specs.Far.{hearFar}
 use Rattle.tau_filter.specs.Filter.{shadowed}
 use Rattle.tau_block.specs.Block.{Block, Engine, runBlock}
+
+-- ---- K3. Narrowing is hot
+
+-- "Most f64 results lie well inside the f32 normal range. Give that range a short way through": the range is that of the numbers whose size
+-- is from 2^-126 up to 2^127. (`fin s m e` has the size m * up e / down e.) A NaN and the infinities are not in it.
+abbrev pub PlainSizes : Type 0
+PlainSizes =
+    ((s : Bool) (m : ℕ) (e : ℤ) → T (fits binary64 (fin s m e)) → isPlain (fin s m e) ≡ (leb (down e) (m * up e * 2 ^ 126) && ltb (m * up e) (2 ^ 127 * down e)))
+    × ((s : Bool) → isPlain (inf s) ≡ false)
+    × (isPlain nan ≡ false)
+
+-- the square that a number is told by
+abbrev pub PlainBySquare : Type 0
+PlainBySquare = (x : Float) → T (fits binary64 x) → plainSquares (mul binary64 x x) (mul binary64 x x) ≡ isPlain x
+
+-- "the answers stay what they were for every input": of a number in the range, and of a zero, the short way gives the narrowed number
+abbrev pub ShortWay : Type 0
+ShortWay = (x : Float) → T (fits binary64 x)
+    → (isPlain x ≡ true → roundedOf x ≡ narrowOf x)
+    × (Zero x → roundedOf x ≡ narrowOf x)
+
+-- and no number in the range becomes infinite
+abbrev pub PlainStaysFinite : Type 0
+PlainStaysFinite = (x : Float) → T (fits binary64 x) → isPlain x ≡ true → isFinite (narrowOf x) ≡ true
 
 -- ---- K5. A muted microphone is no evidence
 
