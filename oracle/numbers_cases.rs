@@ -1,4 +1,4 @@
-//! Cases for the crate `numbers`, with the answers that Rust gives. `oracle/lists` writes them to
+//! Cases for the crates `numbers` and `narrow_list`, with the answers that Rust gives. `oracle/lists` writes them to
 //! crates/numbers_cases/stdin, which the program `numbers_cases` replays.
 //!
 //! A line is a letter, then four fields of 16 hex digits: operands a, b, c and the answer r. An
@@ -6,6 +6,7 @@
 //!
 //!     n  narrow              r = a as f32
 //!     N  narrow_bits         r = the bits of a as f32
+//!     l  narrow_into         of a list of 33 numbers, c but for a at place b: r = a as f32, and in the high half c as f32
 //!     w  widen               r = a as f64, of an f32
 //!     a  abs, A abs32        r = a.abs()
 //!     i  min                 r = a.min(b)
@@ -143,6 +144,7 @@ fn main() {
     of_one32(&mut list, &mut random);
     of_two(&mut list, &mut random);
     clamping(&mut list, &mut random);
+    short_way(&mut list);
     print!("{}", list.text);
 }
 
@@ -225,6 +227,39 @@ fn subnormal_ties(random: &mut Random) -> Vec<u64> {
         }
     }
     patterns
+}
+
+/// About the ends of the range of the short way, exponents 897 to 1149, and where its product gets a digit more: one number, its bits, and
+/// a list with it at a place among others, plain ones, zeros, and some that the whole group has to go the long way for.
+fn short_way(list: &mut List) {
+    let end = 1u64 << 52;
+    let middles = [1 << 28, 3 << 28, end - (1 << 28), end - (1 << 24)];
+    let mut digits = vec![0, 1, end - 1];
+    digits.extend(
+        middles
+            .iter()
+            .flat_map(|middle| [middle - 1, *middle, middle + 1]),
+    );
+    let others = [1.5, 0.0, -0.0, 1e-40, -3e38, f64::NAN];
+    let mut turn = 0;
+    for exponent in [0, 896, 897, 1023, 1149, 1150, 2047] {
+        for d in &digits {
+            for p in [
+                F64.pattern(exponent, *d),
+                F64.pattern(exponent, *d) | F64.sign(),
+            ] {
+                let x = f64::from_bits(p);
+                list.put('n', [p, 0, 0], bits32(x as f32));
+                list.put('N', [p, 0, 0], bits32(x as f32));
+                for other in [1.5, others[turn % others.len()]] {
+                    let place = (7 * turn % 33) as u64;
+                    let answer = bits32(other as f32) << 32 | bits32(x as f32);
+                    list.put('l', [p, place, bits(other)], answer);
+                    turn += 1;
+                }
+            }
+        }
+    }
 }
 
 /// 210 patterns: both signs of the least, the largest and some other digits at the exponents of

@@ -1,4 +1,4 @@
-//! The transform and narrowing, the port against the Rust: every number's bits, NaN equal to NaN.
+//! The transform, the port against the Rust: every number's bits, NaN equal to NaN.
 
 mod aspeyruni;
 mod fft;
@@ -14,8 +14,6 @@ use tally::Tally;
 
 /// So many transforms of each kind of numbers.
 const ROUNDS: usize = 2_000;
-
-const NARROWED: u64 = 10_000_000;
 
 #[derive(Clone, Copy)]
 enum Kind {
@@ -121,7 +119,6 @@ fn main() {
     complex(&mut random, &mut rust, forwards).tell("complex forward");
     let inverses = (complex_inverse as Port, Reference::complex_inverse as Rust);
     complex(&mut random, &mut rust, inverses).tell("complex inverse");
-    narrow(&mut random).tell("narrow");
     refusals(&mut random).tell("refusals");
 }
 
@@ -185,33 +182,6 @@ fn complex(random: &mut Random, rust: &mut Reference, (port, same): (Port, Rust)
         }
     }
     tally
-}
-
-/// In turn: any number; one of an f32's size, or a little more or less; one halfway between two normal
-/// f32s, or beside that; the same of subnormal ones.
-fn narrow(random: &mut Random) -> Tally {
-    let mut tally = Tally::default();
-    for i in 0..NARROWED {
-        let word = random.word();
-        let (sign, digits) = (word & SIGN, word & DIGITS);
-        let pattern = match i % 4 {
-            0 => word,
-            1 => sign | (868 + random.word() % 289) << 52 | digits,
-            2 => sign | halfway(897 + random.word() % 254, digits, 29) + i % 3 - 1,
-            _ => {
-                let exponent = 874 + random.word() % 23;
-                sign | halfway(exponent, digits, 926 - exponent) + i % 3 - 1
-            }
-        };
-        let x = f64::from_bits(pattern);
-        tally.one(aspeyruni::narrow(x).into(), (x as f32).into());
-    }
-    tally
-}
-
-/// A pattern whose last digits, so many as are dropped, are a one and zeros.
-fn halfway(exponent: u64, digits: u64, dropped: u64) -> u64 {
-    exponent << 52 | digits >> dropped << dropped | 1 << (dropped - 1)
 }
 
 /// Every pair of lengths of which one is wrong, on numbers without NaN, so that bits are compared. The

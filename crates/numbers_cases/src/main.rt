@@ -1,5 +1,5 @@
-// Runs the functions of `numbers` on a list of cases, and compares with the answers that Rust gave
-// (oracle/numbers_cases.rs).
+// Runs the functions of `numbers` and `narrow_list` on a list of cases, and compares with the answers that
+// Rust gave (oracle/numbers_cases.rs).
 //
 // A line has four fields: operands a, b, c and the answer, each as the bits of a number. An operand that
 // is not used is 0, and a pattern of 32 bits stands in the low half. The letters are those in `answer`.
@@ -60,6 +60,7 @@ fn answer(letter: u8, a: u64, b: u64, c: u64) -> Found {
     match letter {
         b'n' => bits32(numbers::narrow(x)),
         b'N' => Found::Bits(wide(numbers::narrow_bits(x))),
+        b'l' => Found::Bits(listed(x, b, z)),
         b'w' => bits(numbers::widen(u)),
         b'a' => bits(numbers::abs(x)),
         b'A' => bits32(numbers::abs32(u)),
@@ -74,6 +75,18 @@ fn answer(letter: u8, a: u64, b: u64, c: u64) -> Found {
         b'B' => bits32(u),
         _ => Found::Nothing,
     }
+}
+
+// A list of 33 numbers, one more than are narrowed at once: z but for x at a place. Its answer there, and in the upper half the one at
+// the next place, or at the first after the last.
+fn listed(x: f64, place: u64, z: f64) -> u64 {
+    let at = (place % 33) as usize;
+    let next = (at + 1) % 33;
+    let mut list = [z; 33];
+    list[at] = x;
+    let mut out = [0.0f32; 33];
+    narrow_list::narrow_into(&list, &mut out);
+    wide(numbers::to_bits32(out[next])) << 32 | wide(numbers::to_bits32(out[at]))
 }
 
 fn low(pattern: u64) -> u32 {
