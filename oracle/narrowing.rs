@@ -95,12 +95,9 @@ fn lists(random: &mut Random) -> Tally {
                 _ => f64::from_bits(pattern(i, random)),
             })
             .collect();
-        listed(
-            &list,
-            random.one_of(&[length, length / 2, length + 5]),
-            &mut tally,
-        );
-        narrowed += length as u64;
+        let room = random.one_of(&[length, length / 2, length + 5]);
+        listed(&list, room, &mut tally);
+        narrowed += length.min(room) as u64;
     }
     tally
 }

@@ -15,7 +15,7 @@ use lib.IntN.{ℤ, pos}
 use lib.Pow.{pow-pos, pow-mono}
 use borrow.Author.Tests.{lt-ltb, le-ltb, le-leb, lt-leb}
 use lib.Ieee.{Float, nan, inf, fin, binary32, binary64, unlike, up, down, round, mul, sub, lt, le, fits, isNan, ofFields, toBits}
-use lib.Ieee.Bits.{is-true, is-false, toBits-lt}
+use lib.Ieee.Bits.{is-true}
 use lib.Ieee.Exact.{HasValue}
 use lib.Ieee.Nearest.{closest}
 use lib.Ieee.Fits.{and-i, and-l, and-r, down-pos}
@@ -25,7 +25,7 @@ use Rattle.laws.specs.Choice.{lt-or-ge}
 use Rattle.numbers.specs.Finite.{isFinite}
 use Rattle.numbers.specs.Narrowing.{narrowOf, fieldOf, isPlain, lowSquare, highSquare, plainSquares, roundedOf}
 use Rattle.numbers.specs.Zeros.{Zero}
-use Rattle.numbers.proofs.Ordered.{total, apart}
+use Rattle.numbers.proofs.Ordered.{total, apart, positive-number}
 use Rattle.numbers.proofs.Rounding.{fields-of, value-zero, value-some, value-end, narrow-value}
 use Rattle.numbers.proofs.Splitting.{rounded-narrows}
 use Rattle.numbers.proofs.Tests.{round-no-nan, narrow-fits, narrow-nan, plain as whole}
@@ -77,10 +77,6 @@ last-under : T (not (le highSquare (at last))) × T (positive (at last))
 unfolding le round
 last-under = (tt, tt)
 
-high-number : T (not (isNan highSquare))
-unfolding isNan
-high-number = tt
-
 -- no bound above u is at most what is at most u
 not-over : (b u z : Float) → T (positive b) → T (not (le b u)) × T (positive u) → T (le z u) → T (le b z) → ⊥
 not-over b u z B (n, U) h k = none (le b u) (le-trans-positive b z u B (between b z u B U k h) U k h) n
@@ -115,7 +111,7 @@ module _ (x : Float) (s : Bool) (a : ℕ) (v : HasValue x s a (2 ^ 1074)) where
   high-is : High a → lt (mul binary64 x x) highSquare ≡ ltb a after
   high-is (inl h) =
       ap (λ (z : Float). lt z highSquare) square-is
-      ∙ go (lt (at a) highSquare) (total (at a) highSquare (subst (λ (b : Bool). T (not b)) (sym (round-no-nan binary64 false (a * a) (2 ^ 1074 * 2 ^ 1074))) tt) high-number)
+      ∙ go (lt (at a) highSquare) (total (at a) highSquare (subst (λ (b : Bool). T (not b)) (sym (round-no-nan binary64 false (a * a) (2 ^ 1074 * 2 ^ 1074))) tt) (positive-number highSquare tt))
       ∙ sym (lt-ltb a after (lt-of-le-of-lt h last-after))
     where
       go : (b : Bool) → (b ≡ false → T (le highSquare (at a))) → b ≡ true

@@ -1,22 +1,21 @@
--- A number times 2^29 + 1, less what that is above the number: the number rounded to 24 digits, a tie to the even one. Assumes nothing.
---     rounded-plain    of a plain number, the narrowed number
---     rounded-zero     of a zero, that zero
+-- A number times 2^29 + 1, less what that is above the number: the number rounded to 24 digits, a tie to the even one. (The method is
+-- known as Veltkamp's splitting.) With M the number's 53 digits and `kept M` the 24 that are kept, the product is M + kept M in units of
+-- 2^29, the difference is M, and what is left is kept M. Where M is so close below 2^53 that the product has a digit more, all three are
+-- other numbers, and what is left is 2^24. Assumes nothing.
+--     rounded-narrows     so it is the narrowed number, where no carry of that can give the infinity and no digit is lost below
 use mathlib.Core.Path.{_≡_, refl, sym, ap, _∙_, subst}
-use mathlib.Core.Bool.{Bool, true, false, not, _&&_, Bool·beq, cond}
+use mathlib.Core.Bool.{Bool, true, false}
 use mathlib.Core.Logic.{_⊎_, inl, inr}
-use Prim.Native.Nat.{ℕ, zero, suc, _+_, _-_, _*_, _/_, _%_, _^_, _≤_, _<_, compare}
-use native.Mathlib.Nat.{le-trans, le-of-eq, lt-of-lt-of-le, lt-of-le-of-lt, mul-assoc, mul-comm, mul-one, mul-right-comm, mul-mul-mul-comm, mul-pos, mul-sub, add-mul, one-mul, div-add-mod', mod-lt, mul-div-cancel, mul-le-mul-right, mul-lt-mul-of-pos-right, lt-of-mul-lt-mul-right, eq-of-mul-eq-mul-right, le-of-lt}
+use Prim.Native.Nat.{ℕ, _+_, _-_, _*_, _/_, _%_, _^_, _≤_, _<_, compare}
+use native.Mathlib.Nat.{le-trans, le-of-eq, lt-of-le-of-lt, mul-assoc, mul-comm, mul-right-comm, mul-pos, add-mul, one-mul, div-add-mod', mod-lt, mul-div-cancel, mul-le-mul-right, mul-lt-mul-of-pos-right}
 use native.Mathlib.Omega.{arith}
-use lib.Dec.{T, ltb, lit≤, lit<}
-use lib.IntN.{ℤ, pos}
+use lib.Dec.{lit≤, lit<}
 use lib.Pow.{pow-add, pow-pos, pow-mono, pow-lt, shl-lt, shr-lt}
-use borrow.Author.Tests.{lt-ltb, le-ltb}
-use lib.Ieee.{Float, nan, inf, fin, Format, binary32, binary64, unlike, up, down, size, units, round, sum, neg, add, sub, mul, fits}
+use lib.Ieee.{Float, binary64, unlike, size, units, round, sub, mul}
 use lib.Ieee.Digits.{size-le}
 use lib.Ieee.Exact.{HasValue, units-val, round-exact}
-use lib.Ieee.Fits.{core, round-is, down-pos, nearest-le, sub-fits, fits-widens}
+use lib.Ieee.Fits.{core, round-is, nearest-le, sub-fits, fits-widens}
 use lib.Ieee.Nearest.{closest, closest-same}
-use lib.Ieee.Scale.{round-same}
 use Rattle.laws.specs.Choice.{lt-or-ge}
 use Rattle.numbers.specs.Narrowing.{narrowOf, splitter, roundedOf}
 use Rattle.numbers.proofs.Rounding.{closest-ge, closest-le, closest-up, closest-down, closest-tie, size-gt, narrow-value}
@@ -45,7 +44,11 @@ module _ (s : Bool) (N E k : ℕ) (lo : 2 ^ (52 + k) ≤ N) (hi : N < 2 ^ (53 + 
       last = omega arith
 
   cross : N * 2 ^ E * 2 ^ 1074 * 2 ^ k ≡ N * (2 ^ 1074 * 2 ^ (E + k))
-  cross = ap (λ (z : ℕ). z * 2 ^ k) (mul-assoc N (2 ^ E) (2 ^ 1074)) ∙ mul-assoc N (2 ^ E * 2 ^ 1074) (2 ^ k) ∙ ap (λ (z : ℕ). N * z) (ap (λ (z : ℕ). z * 2 ^ k) (mul-comm (2 ^ E) (2 ^ 1074)) ∙ mul-assoc (2 ^ 1074) (2 ^ E) (2 ^ k) ∙ ap (λ (z : ℕ). 2 ^ 1074 * z) (sym (pow-add 2 E k)))
+  cross =
+      ap (λ (z : ℕ). z * 2 ^ k) (mul-right-comm N (2 ^ E) (2 ^ 1074))
+      ∙ mul-assoc (N * 2 ^ 1074) (2 ^ E) (2 ^ k)
+      ∙ ap (λ (z : ℕ). N * 2 ^ 1074 * z) (sym (pow-add 2 E k))
+      ∙ mul-assoc N (2 ^ 1074) (2 ^ (E + k))
 
   round-wide : HasValue (round binary64 s (N * 2 ^ E) (2 ^ 1074)) s (closest N (2 ^ k) * 2 ^ (E + k)) (2 ^ 1074)
   round-wide =
@@ -57,9 +60,16 @@ module _ (s : Bool) (N E k : ℕ) (lo : 2 ^ (52 + k) ≤ N) (hi : N < 2 ^ (53 + 
 
 -- ---- the nearest whole number, known by how near it is
 
--- the whole number D that N / b is at most a half away from, and at just a half an even one
-closest-is : (N b D : ℕ) → 0 < b → N * 2 ≤ D * b * 2 + b → D * b * 2 ≤ N * 2 + b → (D % 2 ≡ 0) ⊎ ((N * 2 < D * b * 2 + b) × (D * b * 2 < N * 2 + b)) → closest N b ≡ D
-closest-is N b D B above under tie = go (lt-or-ge (N / b) D)
+-- even, or less than a half away
+abbrev Settled : ℕ → ℕ → ℕ → Type 0
+Settled N b D = (D % 2 ≡ 0) ⊎ ((N * 2 < D * b * 2 + b) × (D * b * 2 < N * 2 + b))
+
+-- the whole number D is at most a half away from N / b, and at just a half it is even
+abbrev Near : ℕ → ℕ → ℕ → Type 0
+Near N b D = (N * 2 ≤ D * b * 2 + b) × (D * b * 2 ≤ N * 2 + b) × Settled N b D
+
+closest-is : (N b D : ℕ) → 0 < b → Near N b D → closest N b ≡ D
+closest-is N b D B (above, under, tie) = go (lt-or-ge (N / b) D)
   where
     split : N / b * b + N % b ≡ N
     split = div-add-mod' N b
@@ -71,7 +81,7 @@ closest-is N b D B above under tie = go (lt-or-ge (N / b) D)
     next e = ap (λ (z : ℕ). z * b) e ∙ add-mul (N / b) 1 b ∙ ap (λ (z : ℕ). N / b * b + z) (one-mul b)
 
     -- the whole part is D - 1
-    low : D ≡ N / b + 1 → (b < N % b * 2) ⊎ (N % b * 2 ≤ b) → (D % 2 ≡ 0) ⊎ ((N * 2 < D * b * 2 + b) × (D * b * 2 < N * 2 + b)) → closest N b ≡ D
+    low : D ≡ N / b + 1 → (b < N % b * 2) ⊎ (N % b * 2 ≤ b) → Settled N b D → closest N b ≡ D
     low e (inl l) t = sym (closest-up N b B (omega (arith, split, rest))) ∙ sym e
     low e (inr l) (inl t) = let p = next e in let w : b - N % b ≤ N % b = omega (arith, split, rest) in sym (closest-tie N b B w (omega (arith, split, rest))) ∙ odd (N / b) e t
       where
@@ -83,7 +93,7 @@ closest-is N b D B above under tie = go (lt-or-ge (N / b) D)
         none t p = omega (arith, split, rest)
 
     -- the whole part is D
-    high : D ≡ N / b → (N % b * 2 < b) ⊎ (b ≤ N % b * 2) → (D % 2 ≡ 0) ⊎ ((N * 2 < D * b * 2 + b) × (D * b * 2 < N * 2 + b)) → closest N b ≡ D
+    high : D ≡ N / b → (N % b * 2 < b) ⊎ (b ≤ N % b * 2) → Settled N b D → closest N b ≡ D
     high e (inl l) t = sym (closest-down N b B (omega (arith, split, rest))) ∙ sym e
     high e (inr l) (inl t) = let p : D * b ≡ N / b * b = ap (λ (z : ℕ). z * b) e in let w : N % b ≤ b - N % b = omega (arith, split, rest) in sym (closest-tie N b B (omega (arith, split, rest)) w) ∙ even (N / b) e t
       where
@@ -127,61 +137,58 @@ closest-is N b D B above under tie = go (lt-or-ge (N / b) D)
 
 -- ---- the digits of the product, of the first difference and of the second
 
-abbrev Near : ℕ → ℕ → Type 0
-Near M H = (M ≤ H * 2 ^ 29 + 2 ^ 28) × (H * 2 ^ 29 ≤ M + 2 ^ 28) × ((H % 2 ≡ 0) ⊎ ((M < H * 2 ^ 29 + 2 ^ 28) × (H * 2 ^ 29 < M + 2 ^ 28)))
+abbrev factor : ℕ
+factor = 2 ^ 29 + 1
 
-near : (M : ℕ) → Near M (closest M (2 ^ 29))
+abbrev kept : ℕ → ℕ
+kept M = closest M (2 ^ 29)
+
+near : (M : ℕ) → Near M (2 ^ 29) (kept M)
 near M = go (lt-or-ge (M % 2 ^ 29) (2 ^ 29 - M % 2 ^ 29)) (lt-or-ge (2 ^ 29 - M % 2 ^ 29) (M % 2 ^ 29))
   where
-    go : (M % 2 ^ 29 < 2 ^ 29 - M % 2 ^ 29) ⊎ (2 ^ 29 - M % 2 ^ 29 ≤ M % 2 ^ 29) → (2 ^ 29 - M % 2 ^ 29 < M % 2 ^ 29) ⊎ (M % 2 ^ 29 ≤ 2 ^ 29 - M % 2 ^ 29) → Near M (closest M (2 ^ 29))
-    go (inl a) _ = subst (λ (h : ℕ). Near M h) (closest-down M (2 ^ 29) (pow-pos 29) a) (omega arith, omega arith, inr (omega arith, omega arith))
-    go (inr a) (inl b) = subst (λ (h : ℕ). Near M h) (closest-up M (2 ^ 29) (pow-pos 29) b) (omega arith, omega arith, inr (omega arith, omega arith))
-    go (inr a) (inr b) = subst (λ (h : ℕ). Near M h) (closest-tie M (2 ^ 29) (pow-pos 29) a b) (omega arith, omega arith, inl (omega arith))
+    go : (M % 2 ^ 29 < 2 ^ 29 - M % 2 ^ 29) ⊎ (2 ^ 29 - M % 2 ^ 29 ≤ M % 2 ^ 29) → (2 ^ 29 - M % 2 ^ 29 < M % 2 ^ 29) ⊎ (M % 2 ^ 29 ≤ 2 ^ 29 - M % 2 ^ 29) → Near M (2 ^ 29) (kept M)
+    go (inl a) _ = subst (Near M (2 ^ 29)) (closest-down M (2 ^ 29) (pow-pos 29) a) (omega arith, omega arith, inr (omega arith, omega arith))
+    go (inr a) (inl b) = subst (Near M (2 ^ 29)) (closest-up M (2 ^ 29) (pow-pos 29) b) (omega arith, omega arith, inr (omega arith, omega arith))
+    go (inr a) (inr b) = subst (Near M (2 ^ 29)) (closest-tie M (2 ^ 29) (pow-pos 29) a b) (omega arith, omega arith, inl (omega arith))
 
 module _ (M : ℕ) (lo : 2 ^ 52 ≤ M) (hi : M < 2 ^ 53) where
-  abbrev H : ℕ
-  H = closest M (2 ^ 29)
-
-  half : 0 < 2 ^ 29
-  half = pow-pos 29
-
   -- with an odd last digit M is not half way between two multiples of 2^29
   odd-apart : (h : ℕ) → 1 ≤ M % 2 → M ≤ h * 2 ^ 29 + 2 ^ 28 → h * 2 ^ 29 ≤ M + 2 ^ 28 → (M < h * 2 ^ 29 + 2 ^ 28) × (h * 2 ^ 29 < M + 2 ^ 28)
   odd-apart h o a b = (omega arith, omega arith)
 
   -- the product has 82 digits
-  product-low : closest (M * 536870913) (2 ^ 29) ≡ M + H
-  product-low = let n = near M in closest-is (M * 536870913) (2 ^ 29) (M + H) half (omega arith) (omega arith) (go (lt-or-ge (M % 2) 1) (n .2))
+  product-low : closest (M * factor) (2 ^ 29) ≡ M + kept M
+  product-low = let n = near M in closest-is (M * factor) (2 ^ 29) (M + kept M) (pow-pos 29) (omega arith, omega arith, go (lt-or-ge (M % 2) 1) (n .2))
     where
-      go : (M % 2 < 1) ⊎ (1 ≤ M % 2) → (H % 2 ≡ 0) ⊎ ((M < H * 2 ^ 29 + 2 ^ 28) × (H * 2 ^ 29 < M + 2 ^ 28)) → ((M + H) % 2 ≡ 0) ⊎ ((M * 536870913 * 2 < (M + H) * 2 ^ 29 * 2 + 2 ^ 29) × ((M + H) * 2 ^ 29 * 2 < M * 536870913 * 2 + 2 ^ 29))
+      go : (M % 2 < 1) ⊎ (1 ≤ M % 2) → Settled M (2 ^ 29) (kept M) → Settled (M * factor) (2 ^ 29) (M + kept M)
       go (inl a) (inl b) = inl (omega arith)
       go (inl a) (inr b) = inr (omega arith, omega arith)
-      go (inr a) t = let n = near M in let w = odd-apart H a (n .0) (n .1) in inr (omega arith, omega arith)
+      go (inr a) t = let n = near M in let w = odd-apart (kept M) a (omega arith) (omega arith) in inr (omega arith, omega arith)
 
-  rest-low : closest ((M + H) * 2 ^ 29 - M) (2 ^ 29) ≡ M
-  rest-low = let n = near M in closest-is ((M + H) * 2 ^ 29 - M) (2 ^ 29) M half (omega arith) (omega arith) (go (lt-or-ge (M % 2) 1))
+  rest-low : closest ((M + kept M) * 2 ^ 29 - M) (2 ^ 29) ≡ M
+  rest-low = let n = near M in closest-is ((M + kept M) * 2 ^ 29 - M) (2 ^ 29) M (pow-pos 29) (omega arith, omega arith, go (lt-or-ge (M % 2) 1))
     where
-      go : (M % 2 < 1) ⊎ (1 ≤ M % 2) → (M % 2 ≡ 0) ⊎ ((((M + H) * 2 ^ 29 - M) * 2 < M * 2 ^ 29 * 2 + 2 ^ 29) × (M * 2 ^ 29 * 2 < ((M + H) * 2 ^ 29 - M) * 2 + 2 ^ 29))
+      go : (M % 2 < 1) ⊎ (1 ≤ M % 2) → Settled ((M + kept M) * 2 ^ 29 - M) (2 ^ 29) M
       go (inl a) = inl (omega arith)
-      go (inr a) = let n = near M in let w = odd-apart H a (n .0) (n .1) in inr (omega arith, omega arith)
+      go (inr a) = let n = near M in let w = odd-apart (kept M) a (omega arith) (omega arith) in inr (omega arith, omega arith)
 
   -- 82 digits again
   digits-low : (h : ℕ) → 2 ^ 23 ≤ h → 2 ^ 81 ≤ (M + h) * 2 ^ 29 - M
   digits-low h g = omega arith
 
-  digits-high : (h : ℕ) → h * 2 ^ 29 ≤ M + 2 ^ 28 → (M + h) * 2 ^ 29 - M < 2 ^ 82
+  digits-high : (h : ℕ) → h * 2 ^ 29 * 2 ≤ M * 2 + 2 ^ 29 → (M + h) * 2 ^ 29 - M < 2 ^ 82
   digits-high h g = omega arith
 
-  -- It has 83 digits: then M is close below 2^53, which it is rounded to.
+  -- it has 83 digits, and M is close below 2^53
   abbrev top : ℕ
   top = 2 ^ 52 + (M + 2 ^ 24 - 2 ^ 53) / 2
 
-  module _ (h : 2 ^ 82 ≤ M * 536870913) where
-    product-high : closest (M * 536870913) (2 ^ 30) ≡ top
-    product-high = closest-is (M * 536870913) (2 ^ 30) top (pow-pos 30) (omega arith) (omega arith) (inr (omega arith, omega arith))
+  module _ (h : 2 ^ 82 ≤ M * factor) where
+    product-high : closest (M * factor) (2 ^ 30) ≡ top
+    product-high = closest-is (M * factor) (2 ^ 30) top (pow-pos 30) (omega arith, omega arith, inr (omega arith, omega arith))
 
     rest-high : closest (top * 2 ^ 30 - M) (2 ^ 29) ≡ top * 2 - 2 ^ 24
-    rest-high = closest-is (top * 2 ^ 30 - M) (2 ^ 29) (top * 2 - 2 ^ 24) half (omega arith) (omega arith) (inr (omega arith, omega arith))
+    rest-high = closest-is (top * 2 ^ 30 - M) (2 ^ 29) (top * 2 - 2 ^ 24) (pow-pos 29) (omega arith, omega arith, inr (omega arith, omega arith))
 
     digits-top : (2 ^ 81 ≤ top * 2 ^ 30 - M) × (top * 2 ^ 30 - M < 2 ^ 82) × (top * 2 ^ 30 - (top * 2 - 2 ^ 24) * 2 ^ 29 ≡ 2 ^ 53)
     digits-top = bounds top (omega arith) (omega arith)
@@ -189,8 +196,8 @@ module _ (M : ℕ) (lo : 2 ^ 52 ≤ M) (hi : M < 2 ^ 53) where
         bounds : (t : ℕ) → 2 ^ 52 ≤ t → t * 2 ≤ M + 2 ^ 24 → (2 ^ 81 ≤ t * 2 ^ 30 - M) × (t * 2 ^ 30 - M < 2 ^ 82) × (t * 2 ^ 30 - (t * 2 - 2 ^ 24) * 2 ^ 29 ≡ 2 ^ 53)
         bounds t a b = (omega arith, omega arith, omega arith)
 
-    kept-high : H ≡ 2 ^ 24
-    kept-high = closest-is M (2 ^ 29) (2 ^ 24) half (omega arith) (omega arith) (inr (omega arith, omega arith))
+    kept-high : kept M ≡ 2 ^ 24
+    kept-high = closest-is M (2 ^ 29) (2 ^ 24) (pow-pos 29) (omega arith, omega arith, inr (omega arith, omega arith))
 
 -- ---- all of it
 
@@ -203,23 +210,20 @@ unlike-plus true = refl
 unlike-plus false = refl
 
 module _ (x : Float) (s : Bool) (M E : ℕ) (v : HasValue x s (M * 2 ^ E) (2 ^ 1074)) (lo : 2 ^ 52 ≤ M) (hi : M < 2 ^ 53) (above : 896 ≤ E) (below : E ≤ 1148) where
-  abbrev h : ℕ
-  h = closest M (2 ^ 29)
-
   -- the product, by the digits that are dropped of it
-  product : (k : ℕ) → 2 ^ (52 + k) ≤ M * 536870913 → M * 536870913 < 2 ^ (53 + k) → k ≤ 30 → {P : ℕ} → closest (M * 536870913) (2 ^ k) * 2 ^ k ≡ P → HasValue (mul binary64 x splitter) s (P * 2 ^ E) (2 ^ 1074)
+  product : (k : ℕ) → 2 ^ (52 + k) ≤ M * factor → M * factor < 2 ^ (53 + k) → k ≤ 30 → {P : ℕ} → closest (M * factor) (2 ^ k) * 2 ^ k ≡ P → HasValue (mul binary64 x splitter) s (P * 2 ^ E) (2 ^ 1074)
   product k a b l {P} e =
-      let p : mul binary64 x splitter ≡ round binary64 s (M * 536870913 * 2 ^ E) (2 ^ 1074) =
-      mul-value binary64 x splitter s false (M * 2 ^ E) (2 ^ 1074) 536870913 1 (pow-pos 1074) (pow-pos 0) v (refl, refl)
-      ∙ ap (λ (z : Bool). round binary64 z (M * 2 ^ E * 536870913) (2 ^ 1074 * 1)) (unlike-plus s)
-      ∙ ap (λ (z : ℕ). round binary64 s z (2 ^ 1074 * 1)) (mul-right-comm M (2 ^ E) 536870913) in
+      let p : mul binary64 x splitter ≡ round binary64 s (M * factor * 2 ^ E) (2 ^ 1074) =
+      mul-value binary64 x splitter s false (M * 2 ^ E) (2 ^ 1074) factor 1 (pow-pos 1074) (pow-pos 0) v (refl, refl)
+      ∙ ap (λ (z : Bool). round binary64 z (M * 2 ^ E * factor) (2 ^ 1074 * 1)) (unlike-plus s)
+      ∙ ap (λ (z : ℕ). round binary64 s z (2 ^ 1074 * 1)) (mul-right-comm M (2 ^ E) factor) in
       let f : E + k ≤ 2044 = omega arith in
       subst (λ (z : Float). HasValue z s (P * 2 ^ E) (2 ^ 1074)) (sym p)
-      (subst (λ (z : ℕ). HasValue (round binary64 s (M * 536870913 * 2 ^ E) (2 ^ 1074)) s z (2 ^ 1074)) (scaled (closest (M * 536870913) (2 ^ k)) E k ∙ ap (λ (z : ℕ). z * 2 ^ E) e)
-      (round-wide s (M * 536870913) E k a b f))
+      (subst (λ (z : ℕ). HasValue (round binary64 s (M * factor * 2 ^ E) (2 ^ 1074)) s z (2 ^ 1074)) (scaled (closest (M * factor) (2 ^ k)) E k ∙ ap (λ (z : ℕ). z * 2 ^ E) e)
+      (round-wide s (M * factor) E k a b f))
 
   -- the two differences
-  module _ (P D : ℕ) (c : HasValue (mul binary64 x splitter) s (P * 2 ^ E) (2 ^ 1074)) (a : 2 ^ 81 ≤ P - M) (b : P - M < 2 ^ 82) (d : closest (P - M) (2 ^ 29) ≡ D) (e : P - D * 2 ^ 29 ≡ h * 2 ^ 29) where
+  module _ (P D : ℕ) (c : HasValue (mul binary64 x splitter) s (P * 2 ^ E) (2 ^ 1074)) (a : 2 ^ 81 ≤ P - M) (b : P - M < 2 ^ 82) (d : closest (P - M) (2 ^ 29) ≡ D) (e : P - D * 2 ^ 29 ≡ kept M * 2 ^ 29) where
     less : {p q : ℕ} → p < q → p * 2 ^ E < q * 2 ^ E
     less l = mul-lt-mul-of-pos-right l (pow-pos E)
 
@@ -232,16 +236,16 @@ module _ (x : Float) (s : Bool) (M E : ℕ) (v : HasValue x s (M * 2 ^ E) (2 ^ 1
         (subst (λ (z : ℕ). HasValue (round binary64 s ((P - M) * 2 ^ E) (2 ^ 1074)) s z (2 ^ 1074)) (scaled (closest (P - M) (2 ^ 29)) E 29 ∙ ap (λ (z : ℕ). z * 2 ^ 29 * 2 ^ E) d)
         (round-wide s (P - M) E 29 a b f))
 
-    exact : HasValue (round binary64 s (h * 2 ^ 29 * 2 ^ E) (2 ^ 1074)) s (h * 2 ^ 29 * 2 ^ E) (2 ^ 1074)
+    exact : HasValue (round binary64 s (kept M * 2 ^ 29 * 2 ^ E) (2 ^ 1074)) s (kept M * 2 ^ 29 * 2 ^ E) (2 ^ 1074)
     exact =
         let g = closest-le M 29 hi (lit≤ tt) in
         let w : 2 ^ 24 < 2 ^ 53 = lit< tt in
         let t : 24 + (29 + E) < 2098 = omega arith in
-        round-exact binary64 s (h * 2 ^ 29 * 2 ^ E) (2 ^ 1074) h (29 + E) (pow-pos 1074) (lt-of-le-of-lt g w)
+        round-exact binary64 s (kept M * 2 ^ 29 * 2 ^ E) (2 ^ 1074) (kept M) (29 + E) (pow-pos 1074) (lt-of-le-of-lt g w)
         (lt-of-le-of-lt (le-trans (mul-le-mul-right (2 ^ (29 + E)) g) (le-of-eq (sym (pow-add 2 24 (29 + E))))) (pow-lt t))
-        (ap (λ (z : ℕ). z * 2 ^ 1074) (mul-assoc h (2 ^ 29) (2 ^ E) ∙ ap (λ (z : ℕ). h * z) (sym (pow-add 2 29 E))))
+        (ap (λ (z : ℕ). z * 2 ^ 1074) (mul-assoc (kept M) (2 ^ 29) (2 ^ E) ∙ ap (λ (z : ℕ). kept M * z) (sym (pow-add 2 29 E))))
 
-    rounded-value : HasValue (roundedOf x) s (h * 2 ^ 29 * 2 ^ E) (2 ^ 1074)
+    rounded-value : HasValue (roundedOf x) s (kept M * 2 ^ 29 * 2 ^ E) (2 ^ 1074)
     unfolding roundedOf
     rounded-value =
         let g = closest-ge M lo in
@@ -249,15 +253,15 @@ module _ (x : Float) (s : Bool) (M E : ℕ) (v : HasValue x s (M * 2 ^ E) (2 ^ 1
         let p =
         sub-value binary64 (mul binary64 x splitter) (sub binary64 (mul binary64 x splitter) x) s (P * 2 ^ E) (D * 2 ^ 29 * 2 ^ E) (2 ^ 1074) (pow-pos 1074) c rest (less l)
         ∙ ap (λ (z : ℕ). round binary64 s z (2 ^ 1074)) (sym (sub-mul P (D * 2 ^ 29) (2 ^ E)) ∙ ap (λ (z : ℕ). z * 2 ^ E) e) in
-        subst (λ (z : Float). HasValue z s (h * 2 ^ 29 * 2 ^ E) (2 ^ 1074)) (sym p) exact
+        subst (λ (z : Float). HasValue z s (kept M * 2 ^ 29 * 2 ^ E) (2 ^ 1074)) (sym p) exact
 
-  value : HasValue (roundedOf x) s (h * 2 ^ 29 * 2 ^ E) (2 ^ 1074)
-  value = go (lt-or-ge (M * 536870913) (2 ^ 82))
+  value : HasValue (roundedOf x) s (kept M * 2 ^ 29 * 2 ^ E) (2 ^ 1074)
+  value = go (lt-or-ge (M * factor) (2 ^ 82))
     where
-      go : (M * 536870913 < 2 ^ 82) ⊎ (2 ^ 82 ≤ M * 536870913) → HasValue (roundedOf x) s (h * 2 ^ 29 * 2 ^ E) (2 ^ 1074)
+      go : (M * factor < 2 ^ 82) ⊎ (2 ^ 82 ≤ M * factor) → HasValue (roundedOf x) s (kept M * 2 ^ 29 * 2 ^ E) (2 ^ 1074)
       go (inl a) =
-          let P = (M + h) * 2 ^ 29 in
-          rounded-value P M (product 29 (omega arith) a (lit≤ tt) (ap (λ (z : ℕ). z * 2 ^ 29) (product-low M lo hi))) (digits-low M lo hi h (closest-ge M lo)) (digits-high M lo hi h (near M .1)) (rest-low M lo hi) (omega arith)
+          let P = (M + kept M) * 2 ^ 29 in
+          rounded-value P M (product 29 (omega arith) a (lit≤ tt) (ap (λ (z : ℕ). z * 2 ^ 29) (product-low M lo hi))) (digits-low M lo hi (kept M) (closest-ge M lo)) (digits-high M lo hi (kept M) (near M .1)) (rest-low M lo hi) (omega arith)
       go (inr a) =
           let q = kept-high M lo hi a in
           let d = digits-top M lo hi a in
@@ -270,13 +274,13 @@ module _ (x : Float) (s : Bool) (M E : ℕ) (v : HasValue x s (M * 2 ^ E) (2 ^ 1
       let k = E - 896 in
       let e : E + 29 ≡ 925 + k = omega arith in
       let l : k ≤ 252 = omega arith in
-      unique binary64 (roundedOf x) (narrowOf x) s (h * 2 ^ k) (2 ^ 149) (pow-pos 149) (sub-fits binary64 (mul binary64 x splitter) (sub binary64 (mul binary64 x splitter) x)) (fits-widens (narrowOf x) (narrow-fits x))
-      (rescale (roundedOf x) s (h * 2 ^ 29 * 2 ^ E) (2 ^ 1074) (h * 2 ^ k) (2 ^ 149) (pow-pos 1074) (units (E - 896) (omega arith)) value)
+      unique binary64 (roundedOf x) (narrowOf x) s (kept M * 2 ^ k) (2 ^ 149) (pow-pos 149) (sub-fits binary64 (mul binary64 x splitter) (sub binary64 (mul binary64 x splitter) x)) (fits-widens (narrowOf x) (narrow-fits x))
+      (rescale (roundedOf x) s (kept M * 2 ^ 29 * 2 ^ E) (2 ^ 1074) (kept M * 2 ^ k) (2 ^ 149) (pow-pos 1074) (units (E - 896) (omega arith)) value)
       (narrow-value x s M E k v lo hi e l)
     where
-      units : (k : ℕ) → k + 1074 ≡ 29 + E + 149 → h * 2 ^ k * 2 ^ 1074 ≡ h * 2 ^ 29 * 2 ^ E * 2 ^ 149
+      units : (k : ℕ) → k + 1074 ≡ 29 + E + 149 → kept M * 2 ^ k * 2 ^ 1074 ≡ kept M * 2 ^ 29 * 2 ^ E * 2 ^ 149
       units k e =
-          mul-assoc h (2 ^ k) (2 ^ 1074)
-          ∙ ap (λ (z : ℕ). h * z) (sym (pow-add 2 k 1074) ∙ ap (λ (z : ℕ). 2 ^ z) e ∙ pow-add 2 (29 + E) 149 ∙ ap (λ (z : ℕ). z * 2 ^ 149) (pow-add 2 29 E))
-          ∙ sym (mul-assoc h (2 ^ 29 * 2 ^ E) (2 ^ 149))
-          ∙ ap (λ (z : ℕ). z * 2 ^ 149) (sym (mul-assoc h (2 ^ 29) (2 ^ E)))
+          mul-assoc (kept M) (2 ^ k) (2 ^ 1074)
+          ∙ ap (λ (z : ℕ). kept M * z) (sym (pow-add 2 k 1074) ∙ ap (λ (z : ℕ). 2 ^ z) e ∙ pow-add 2 (29 + E) 149 ∙ ap (λ (z : ℕ). z * 2 ^ 149) (pow-add 2 29 E))
+          ∙ sym (mul-assoc (kept M) (2 ^ 29 * 2 ^ E) (2 ^ 149))
+          ∙ ap (λ (z : ℕ). z * 2 ^ 149) (sym (mul-assoc (kept M) (2 ^ 29) (2 ^ E)))

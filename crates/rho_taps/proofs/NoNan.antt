@@ -1,6 +1,6 @@
 -- A sum that is no NaN has no term that is one. Assumes nothing.
 --     all    32 samples summed in eight lanes of four
-use mathlib.Core.Path.{_≡_, ap, _∙_}
+use mathlib.Core.Path.{_≡_, _∙_}
 use mathlib.Core.Bool.{false, not}
 use mathlib.Core.List.{List}
 use Prim.Native.Nat.{ℕ, _+_, _<_}

@@ -25,4 +25,8 @@ least-spec =
     (λ c κs. search needs)
     (λ c κs. search needs)
     (λ c κs. search needs)
-    (λ c. cc (tree-same lesserOf _ _ (c .before .before .before .before .before .before .before .leasts .ensures))))
+    (λ c. let two = c .before .before .before .before in
+    let one = two .before .before in
+    rw
+    (c .lower7 .ensures, two .lower3 .ensures, one .lower .ensures, two .before .lower2 .ensures, c .before .lower6 .ensures, c .before .before .before .lower4 .ensures, c .before .before .lower5 .ensures)
+    (tree-same lesserOf _ _ (one .before .leasts .ensures))))
