@@ -25,7 +25,7 @@ use aspeyruni::{rho, tau};
 use canceller::EchoCanceller;
 use config::Suppression;
 use fft::{Complex, ComplexFft, RealFft};
-use inputs::Noise;
+use inputs::{Noise, Random};
 use kinds::{Kind, LOUD, QUARTER, SOUND};
 use race::{race, Plan, Times};
 use reference::{complexes, numbers, POINTS, SAMPLES, SPECTRUM};
@@ -102,7 +102,16 @@ fn rust_rows() -> Vec<Row> {
         row("forward, 512 samples", forward),
         row("inverse, 257 bins", inverse),
         row("complex forward, 256 points", complex_forward),
-        row("narrow, 512 numbers", narrow),
+        row("narrow, 512 numbers", || narrow(None, call_by_call)),
+        row("narrow_list, 512 numbers", || {
+            narrow(None, aspeyruni::narrow_list)
+        }),
+        row("narrow_list, 512 numbers, one in 16 a zero", || {
+            narrow(Some(16), aspeyruni::narrow_list)
+        }),
+        row("narrow_list, 512 numbers in lists of 16", || {
+            narrow(None, one_by_one)
+        }),
     ];
     for tail in [64, 200] {
         for (near, pair) in [(QUARTER, "a pair with update"), (LOUD, "a frozen pair")] {
@@ -250,12 +259,22 @@ fn complex_forward() -> Times {
     )
 }
 
-/// The library narrows one number a call. The Rust's is an instruction, which Rattle does not have.
-fn narrow() -> Times {
-    let mut sound = Noise::sound(SEED);
+/// The Rust's is an instruction, which takes several numbers at once and which Rattle does not have. One in so many numbers is a zero,
+/// or none.
+fn narrow(zeros: Option<u64>, port: fn(&[f64], &mut [f32])) -> Times {
+    let (mut sound, mut choice) = (Noise::sound(SEED), Random(OTHER_SEED));
+    let mut number = move || {
+        let x = sound.number();
+        let is_zero = zeros.is_some_and(|one_in| choice.word() % one_in == 0);
+        if is_zero {
+            0.0
+        } else {
+            x
+        }
+    };
     race(
         A_TRANSFORM,
-        || (from_fn(|_| sound.number()), [0.0; SAMPLES]),
+        || (from_fn(|_| number()), [0.0; SAMPLES]),
         |(from, to): &mut ([f64; SAMPLES], [f32; SAMPLES])| {
             for (x, y) in from.iter().zip(to.iter_mut()) {
                 *y = *x as f32;
@@ -263,12 +282,23 @@ fn narrow() -> Times {
             black_box(&to);
         },
         |(from, to)| {
-            for (x, y) in from.iter().zip(to.iter_mut()) {
-                *y = aspeyruni::narrow(*x);
-            }
+            port(from, to);
             black_box(&to);
         },
     )
+}
+
+fn call_by_call(from: &[f64], to: &mut [f32]) {
+    for (x, y) in from.iter().zip(to) {
+        *y = aspeyruni::narrow(*x);
+    }
+}
+
+/// A list of fewer than 32 numbers is narrowed number by number.
+fn one_by_one(from: &[f64], to: &mut [f32]) {
+    for (from, to) in from.chunks(16).zip(to.chunks_mut(16)) {
+        aspeyruni::narrow_list(from, to);
+    }
 }
 
 /// Samples of a kind, more at each call.

@@ -18,6 +18,7 @@ static struct aspeyruni_rho_answer rho_answer;
 
 static void nothing(void) {}
 static void narrow(void) { out[0] = aspeyruni_narrow(shadow[0]); }
+static void narrow_list(void) { aspeyruni_narrow_list(spectrum, 512, samples, 512); }
 static void forward(void) { aspeyruni_forward(samples, 512, spectrum, 514); }
 static void inverse(void) { aspeyruni_inverse(spectrum, 514, samples, 512); }
 static void tau_create(void)
@@ -75,7 +76,8 @@ int main(void)
     static const struct {
         const char *name;
         void (*what)(void);
-    } calls[] = {{"none", nothing},           {"narrow", narrow},           {"forward", forward},     {"inverse", inverse},
+    } calls[] = {{"none", nothing},           {"narrow", narrow},           {"narrow_list", narrow_list},
+                 {"forward", forward},       {"inverse", inverse},
                  {"tau create", tau_create}, {"tau process", tau_process}, {"tau flush", tau_flush}, {"tau reset", tau_reset},
                  {"rho create", rho_create}, {"rho process", rho_process}, {"rho flush", rho_flush}, {"rho reset", rho_reset}};
     unsigned char *stack = aligned_alloc(4096, STACK);
