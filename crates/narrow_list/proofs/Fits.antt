@@ -1,28 +1,26 @@
 -- What goes the short way: it is rounded to the narrowed number, and its square tells it. Assumes nothing.
 --     fit-rounded, fit-number         what is rounded is the narrowed number, and no NaN
---     fit-square, fit-past-zero       by its square, and by that with zeros passed over
+--     fit-square                      by its square
 --     each-plain                      32 squares by their least and their sum
 use mathlib.Core.Path.{_≡_, refl, sym, _∙_, subst}
 use mathlib.Core.Bool.{true, not}
 use mathlib.Core.List.{List}
 use Prim.Native.Nat.{ℕ, _<_}
 use lib.Dec.{T}
-use lib.Ieee.{Float, nan, inf, fin, binary64, add, lt, eq, le, fits, isNan}
+use lib.Ieee.{Float, nan, inf, fin, binary64, add, lt, le, fits, isNan}
 use lib.Ieee.Bits.{is-true}
 use lib.Ieee.Fits.{and-i, and-l, and-r}
 use lib.ListN.{getD}
 use Rattle.laws.specs.Choice.{pick-if}
-use Rattle.numbers.specs.Finite.{plus}
 use Rattle.numbers.specs.Narrowing.{narrowOf, lowSquare, highSquare, plainSquares, roundedOf}
-use Rattle.numbers.specs.Ranges.{one, Power}
+use Rattle.numbers.specs.Ranges.{Power}
 use Rattle.numbers.specs.Zeros.{Zero}
 use Rattle.numbers.proofs.Plain.{plain-is, plain-rounded, plain-number, zero-rounded}
 use Rattle.numbers.proofs.Ordered.{lesser-above, lt-number}
-use Rattle.numbers.proofs.Ranged.{power-square, power-add}
+use Rattle.numbers.proofs.Ranged.{power-add}
 use Rattle.numbers.proofs.Squares.{sum-below}
-use Rattle.numbers.proofs.Zeros.{zero-of-eq}
 use Rattle.narrow_list.specs.Lanes.{lesserOf, laneOf, gathered}
-use Rattle.narrow_list.specs.Short.{Fit, squareOf, squarePastZero}
+use Rattle.narrow_list.specs.Short.{Fit, squareOf}
 use Rattle.narrow_list.proofs.Lanes.{all}
 
 zero-number : (x : Float) → Zero x → T (not (isNan x))
@@ -42,15 +40,6 @@ module _ (x : Float) (f : T (fits binary64 x)) where
 
   pub fit-square : plainSquares (squareOf x) (squareOf x) ≡ true → Fit x
   fit-square h = Fit.plain (sym (plain-is x f) ∙ h)
-
-  pub fit-past-zero : plainSquares (squarePastZero x) (squarePastZero x) ≡ true → Fit x
-  fit-past-zero = pick-if (λ (q : Float). plainSquares q q ≡ true → Fit x) (eq x plus) (λ e h. Fit.none (zero-of-eq x e)) (λ e h. fit-square h)
-
-one-power : Power one
-one-power = record { power = tt }
-
-pub power-past-zero : (x : Float) → Power (squarePastZero x)
-power-past-zero x = pick-if Power (eq x plus) (λ e. one-power) (λ e. power-square binary64 x)
 
 -- ---- 32 squares by their least and their sum
 

@@ -49,10 +49,7 @@ pub fn is_plain(x: f64) -> bool
 pub fn plain_squares(least: f64, most: f64) -> bool
     ensures { λ r. ⌜ PlainSquares least most r ⌝ }
 {
-    if 1.3817869688151111e-76 <= least {
-        return most < 2.894802230932905e76;
-    }
-    false
+    (1.3817869688151111e-76 <= least) & (most < 2.894802230932905e76)
 }
 
 // x to the nearest number of 24 digits, at a tie to the even one, if x is plain or a zero: the f32 nearest to it, still as an f64. The
