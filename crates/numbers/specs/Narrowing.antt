@@ -36,7 +36,7 @@ plainSquares least most = le lowSquare least && lt most highSquare
 abbrev pub splitter : Float
 splitter = fin false (2 ^ 29 + 1) (pos 0)
 
--- What the short way computes in f64, operation by operation. Of a plain number and of a zero it is `narrowOf` (proofs/Splitting).
+-- What the short way computes in f64, operation by operation. Of a plain number and of a zero it is `narrowOf` (proofs/Plain).
 unfoldable pub roundedOf : Float → Float
 roundedOf x = sub binary64 (mul binary64 x splitter) (sub binary64 (mul binary64 x splitter) x)
 

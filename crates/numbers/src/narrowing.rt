@@ -9,6 +9,14 @@ ghost use lib.Ieee.Nearest.{closest};
 ghost use Rattle.numbers.specs.Narrowing.{magOf};
 ghost use Rattle.numbers.specs.Promises.{Widen, Narrow, NarrowBits, IsPlain, PlainSquares, Rounded};
 
+// 2^-252 and 2^254, the squares of the ends of the range that has a short way.
+const LOW_SQUARE: f64 = 1.3817869688151111e-76;
+
+const HIGH_SQUARE: f64 = 2.894802230932905e76;
+
+// 2^29 + 1: of the 53 digits of an f64 an f32 has 24, so 29 go.
+const SPLITTER: f64 = 536870913.0;
+
 // The same number. Nothing is rounded, so the logic has one value for both.
 pub fn widen(x: f32) -> f64
     ensures { λ r. ⌜ Widen x r ⌝ }
@@ -44,12 +52,12 @@ pub fn is_plain(x: f64) -> bool
     plain_squares(square, square)
 }
 
-// Whether a least square is at least 2^-252 and another, or a sum that bounds it, below 2^254: then a number whose square is between the
-// two is plain. By squares: they need no sign taken off, a NaN fails, and the squares of many numbers are added and compared at once.
+// Whether every number is plain whose square is from `least` to `most`. By squares: they need no sign taken off, a NaN fails by itself, and
+// of many numbers the least square and the sum of all can be made several at once. With `&`, so that no branch hinders that.
 pub fn plain_squares(least: f64, most: f64) -> bool
     ensures { λ r. ⌜ PlainSquares least most r ⌝ }
 {
-    (1.3817869688151111e-76 <= least) & (most < 2.894802230932905e76)
+    (LOW_SQUARE <= least) & (most < HIGH_SQUARE)
 }
 
 // x to the nearest number of 24 digits, at a tie to the even one, if x is plain or a zero: the f32 nearest to it, still as an f64. The
@@ -58,7 +66,7 @@ pub fn plain_squares(least: f64, most: f64) -> bool
 pub fn rounded(x: f64) -> f64
     ensures { λ r. ⌜ Rounded x r ⌝ }
 {
-    let product = x * 536870913.0;
+    let product = x * SPLITTER;
     product - (product - x)
 }
 
