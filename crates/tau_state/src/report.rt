@@ -1,7 +1,7 @@
 // What a call says of the last block that it ran.
 use crate::state::Mic;
 ghost use mathlib.Core.Path.{_≡_};
-ghost use Rattle.tau_state.specs.Report.{numberOf, leakIn, reportOf};
+ghost use Rattle.tau_state.specs.Report.{numberOf, leakIn, reasonNumber, outcomeOf, untold, reportOf};
 
 // What a block did to the output filter: it did not run, no move, a rescue of the shadow, or a move with its leak.
 pub enum Outcome {
@@ -11,23 +11,71 @@ pub enum Outcome {
     Move(f64),
 }
 
-// The counters and the verdict stand in the state; the outcome is of the last block.
+// Why the output filter stood still in a block: the first of these that holds. Where none does it moved, with its leak.
+pub enum Reason {
+    NoBlock,
+    FlushBlock,
+    OutputDiverged,
+    FarNotActive,
+    NotEstablished,
+    Rescued,
+    QuietStreakShort,
+    NoOutputPower,
+    NoAdvantage,
+    Moved(f64),
+}
+
+// What a block tells of itself, besides what it leaves in the state.
+pub struct Told {
+    pub reason: Reason,
+}
+
+// The counters and the verdict stand in the state; the outcome is that of the last block's reason.
 pub struct Report {
     pub transfers: u64,
     pub divergence_resets: u64,
     pub double_talk: bool,
     pub outcome: Outcome,
+    pub last: Told,
 }
 
-pub fn report_of(m: Mic, outcome: Outcome) -> Report
-    ensures { λ r. ⌜ r ≡ reportOf m outcome ⌝ }
+pub fn outcome_of(reason: Reason) -> Outcome
+    ensures { λ r. ⌜ r ≡ outcomeOf reason ⌝ }
+{
+    match reason {
+        Reason::NoBlock => Outcome::NotRun,
+        Reason::FlushBlock => Outcome::NoMove,
+        Reason::OutputDiverged => Outcome::NoMove,
+        Reason::FarNotActive => Outcome::NoMove,
+        Reason::NotEstablished => Outcome::NoMove,
+        Reason::Rescued => Outcome::Rescue,
+        Reason::QuietStreakShort => Outcome::NoMove,
+        Reason::NoOutputPower => Outcome::NoMove,
+        Reason::NoAdvantage => Outcome::NoMove,
+        Reason::Moved(leak) => Outcome::Move(leak),
+    }
+}
+
+// Where no block ran.
+pub fn nothing_told() -> Told
+    ensures { λ r. ⌜ r ≡ untold ⌝ }
+{
+    Told {
+        reason: Reason::NoBlock,
+    }
+}
+
+pub fn report_of(m: Mic, last: Told) -> Report
+    ensures { λ r. ⌜ r ≡ reportOf m last ⌝ }
 {
     let d = m.detector;
+    let reason = last.reason;
     Report {
         transfers: m.transfers,
         divergence_resets: m.divergence_resets,
         double_talk: d.double_talk,
-        outcome,
+        outcome: outcome_of(reason),
+        last,
     }
 }
 
@@ -52,5 +100,23 @@ pub fn leak_of(o: Outcome) -> f64
         Outcome::NoMove => 0.0,
         Outcome::Rescue => 0.0,
         Outcome::Move(leak) => leak,
+    }
+}
+
+// The reason as a number, likewise: its place in the order.
+pub fn reason_number(reason: Reason) -> u32
+    ensures { λ r. ⌜ r ≡ reasonNumber reason ⌝ }
+{
+    match reason {
+        Reason::NoBlock => 0,
+        Reason::FlushBlock => 1,
+        Reason::OutputDiverged => 2,
+        Reason::FarNotActive => 3,
+        Reason::NotEstablished => 4,
+        Reason::Rescued => 5,
+        Reason::QuietStreakShort => 6,
+        Reason::NoOutputPower => 7,
+        Reason::NoAdvantage => 8,
+        Reason::Moved(_leak) => 9,
     }
 }

@@ -8,4 +8,5 @@ unfolding reportOf
 report-of-spec =
     tie.close
     (tie.spec
-    (λ c. search needs))
+    (λ c κs. search needs)
+    (λ c. rw (c .outcome-of .ensures)))
