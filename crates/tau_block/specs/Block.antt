@@ -9,9 +9,10 @@ use Rattle.tau_state.specs.Sums.{energyOf}
 use Rattle.tau_state.specs.declared.state.TauCanceller.{TauCanceller}
 use Rattle.tau_state.specs.declared.state.Mic.{Mic}
 use Rattle.tau_state.specs.declared.state.Detector.{Detector}
-use Rattle.tau_state.specs.declared.report.Outcome.{Outcome}
+use Rattle.tau_state.specs.declared.report.Told.{Told}
 use Rattle.tau_detector.specs.Detector.{judged, established}
 use Rattle.tau_paths.specs.Paths.{compared}
+use Rattle.tau_paths.specs.declared.paths.Conditions.{Conditions}
 use Rattle.tau_guard.specs.Guard.{guarded}
 use Rattle.tau_guard.specs.Powers.{hosted}
 use Rattle.tau_spectra.specs.Ring.{Ring, ringOf}
@@ -39,11 +40,11 @@ pub record Microphone : Type 0 where
   pub shadow : List Float
   pub output : List Float
 
--- what a block leaves of a microphone, the 256 samples, and what it did to the output filter
+-- what a block leaves of a microphone, the 256 samples, and what it tells of itself
 pub record Listened : Type 0 where
   pub microphone : Microphone
   pub block : List Float
-  pub outcome : Outcome
+  pub told : Told
 
 -- neither collapsed nor protected
 abbrev pub quiet : Detector → Bool
@@ -63,9 +64,14 @@ listen flagged playing b microphone =
     -- 5. "House detector, on every block.
     let detector = judged (playing .active) energy near (shadow .estimate) (b .valid) (mic .detector) in
     -- Then, only if not flushing, not diverged in 3, far active and established, the two-path comparison."
-    let compares = b .adapt && not (output .diverged) && playing .active && established (detector .«dtd_blocks») in
+    let asked : Conditions = record {
+      flushing = not (b .adapt);
+      diverged = output .diverged;
+      «far_is_active» = playing .active;
+      established = established (detector .«dtd_blocks»);
+    } in
     let comparison =
-    compared compares (quiet detector) (shadow .error) (output .error) (b .valid) (output .paths) (mic .transfers) (output .shadow) (output .output) in
+    compared asked (quiet detector) (shadow .error) (output .error) (b .valid) (output .paths) (mic .transfers) (output .shadow) (output .output) in
     -- 6. "Update of the shadow, unless flushing, diverged in 2 or 3, or rescued."
     let updates = b .adapt && not (output .diverged) && not (shadow .diverged) && not (comparison .rescued) in
     let update =
@@ -95,7 +101,7 @@ listen flagged playing b microphone =
         output = guard .output;
       };
       block = guard .block;
-      outcome = comparison .outcome;
+      told = record { reason = comparison .reason };
     }
 
 -- the engine whole: its state and the three lent buffers, the shadow's weights, the output's and the far spectra
@@ -109,7 +115,7 @@ pub record Engine : Type 0 where
 pub record Ran : Type 0 where
   pub engine : Engine
   pub block : List Float
-  pub outcome : Outcome
+  pub told : Told
 
 -- The block, with the 256 far samples that go with it. The carry is not read, and stays.
 unfoldable pub runBlock : Engine → List Float → Block → Ran
@@ -140,5 +146,5 @@ runBlock e far b =
         spectra = heard .spectra;
       };
       block = listened .block;
-      outcome = listened .outcome;
+      told = listened .told;
     }

@@ -11,6 +11,7 @@ use Rattle.tau_state.specs.declared.state.Paths.{Paths}
 use Rattle.tau_state.specs.declared.state.Powers.{Powers}
 use Rattle.tau_detector.specs.Detector.{judged, established}
 use Rattle.tau_paths.specs.Paths.{Comparison, compared}
+use Rattle.tau_paths.specs.declared.paths.Conditions.{Conditions}
 use Rattle.tau_guard.specs.Guard.{Guarded, guarded}
 use Rattle.tau_guard.specs.Powers.{hosted}
 use Rattle.tau_spectra.specs.Ring.{Ring}
@@ -41,14 +42,22 @@ pub record Judgement : Type 0 where
   pub detector : Detector
   pub comparison : Comparison
 
+abbrev pub askedOf : Bool → Bool → Filtered → Detector → Conditions
+askedOf adapt active f detector = record {
+  flushing = not adapt;
+  diverged = f .output .diverged;
+  «far_is_active» = active;
+  established = established (detector .«dtd_blocks»);
+}
+
 unfoldable pub compares : Bool → Bool → List Float → Float → ℕ → Filtered → Mic → Judgement
 compares adapt active near energy valid f mic =
     let detector = judged active energy near (f .estimate) valid (mic .detector) in
     record {
       detector = detector;
       comparison =
-          compared (adapt && not (f .output .diverged) && active && established (detector .«dtd_blocks»)) (quiet detector) (f .shadowError)
-          (f .output .error) valid (f .output .paths) (mic .transfers) (f .output .shadow) (f .output .output);
+          compared (askedOf adapt active f detector) (quiet detector) (f .shadowError) (f .output .error) valid (f .output .paths)
+          (mic .transfers) (f .output .shadow) (f .output .output);
     }
 
 -- 7 to 9
@@ -62,7 +71,7 @@ delivered runs protect near energy valid estimate mic paths resets output =
     let after = guarded near energy valid (mic .guard) (suppression .suppressor) paths resets (suppression .block) output in
     record { guarded = after; powers = hosted near (after .block) valid (mic .powers) }
 
--- what they leave of the microphone, the block and the outcome
+-- what they leave of the microphone, the block, and what it tells
 abbrev pub gathered : Judgement → Updated → Delivered → Listened
 gathered j u g = record {
   microphone = record {
@@ -80,7 +89,7 @@ gathered j u g = record {
     output = g .guarded .output;
   };
   block = g .guarded .block;
-  outcome = j .comparison .outcome;
+  told = record { reason = j .comparison .reason };
 }
 
 -- 6. "unless flushing, diverged in 2 or 3, or rescued"

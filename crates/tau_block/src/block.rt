@@ -7,8 +7,9 @@ use tau_filter::filter::shadow_estimate;
 use tau_guard::guard::guard;
 use tau_guard::powers::host_powers;
 use tau_paths::paths::Compared;
+use tau_paths::paths::Conditions;
 use tau_paths::paths::compare;
-use tau_state::report::Outcome;
+use tau_state::report::Told;
 use tau_state::state::DTD_ESTABLISH_BLOCKS;
 use tau_state::state::Detector;
 use tau_state::state::Guard;
@@ -49,7 +50,7 @@ pub struct DeliveredRest {
 
 pub struct ListenedRest {
     pub mic: MicRest,
-    pub outcome: Outcome,
+    pub told: Told,
 }
 
 // Steps 2 and 3.
@@ -139,13 +140,17 @@ fn judge(
 {
     let output_checked = checked.output;
     let detector = double_talk_block(mic.detector, active, near_energy, near, estimate, valid);
-    let established = DTD_ESTABLISH_BLOCKS <= detector.dtd_blocks;
-    let compares = adapt & !output_checked.diverged & active & established;
+    let asked = Conditions {
+        flushing: !adapt,
+        diverged: output_checked.diverged,
+        far_is_active: active,
+        established: DTD_ESTABLISH_BLOCKS <= detector.dtd_blocks,
+    };
     let quiet = !detector.dtd_collapsed & !detector.protect_output;
     let paths = output_checked.paths;
     let transfers = mic.transfers;
     let compared = compare(
-        compares,
+        asked,
         quiet,
         shadow_error,
         error,
@@ -334,7 +339,7 @@ pub fn run_mic(
     let paths = delivered.paths;
     let guard = delivered.guard;
     let powers = delivered.powers;
-    let outcome = compared.outcome;
+    let reason = compared.reason;
     ListenedRest {
         mic: MicRest {
             detector,
@@ -344,6 +349,6 @@ pub fn run_mic(
             transfers: compared.transfers,
             divergence_resets: delivered.divergence_resets,
         },
-        outcome,
+        told: Told { reason },
     }
 }

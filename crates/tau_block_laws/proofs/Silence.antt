@@ -28,7 +28,9 @@ use Rattle.fft.proofs.Silence.{silent-spectrum, silent-samples, faint-spectrum,
 use Rattle.tau_clears.specs.Clears.{divergeShadow, retireOutput}
 use Rattle.tau_state.specs.Constants.{zero32, zero64, f0·5}
 use Rattle.tau_guard.specs.Guard.{Guarded, replaced, guarded}
-use Rattle.tau_paths.specs.Paths.{Comparison, shadowAfter, outputAfter, acted, compared}
+use Rattle.tau_paths.specs.Paths.{runs, shadowAfter, outputAfter, acted, weighedIf, compared}
+use Rattle.tau_paths.specs.declared.paths.Conditions.{Conditions}
+use Rattle.tau_steps.proofs.Reasons.{reason-idle}
 use Rattle.tau_state.specs.Sums.{energyOf}
 use Rattle.tau_steps.proofs.Energy.{zero64-is, energy-none}
 use Rattle.tau_clears.specs.Weights.{cleared, halved}
@@ -360,10 +362,10 @@ filtered-through {near} {sh} {ou} ring m b N X W =
 
 -- ---- step 5: no comparison
 
-compared-not : {n : ℕ} {sh ou : List Float} (runs quiet : Bool) (es eo : List Float) (v : ℕ) (p : Paths) (k : ℕ) → runs ≡ false → Both n sh ou
-    → Both n (compared runs quiet es eo v p k sh ou .shadow) (compared runs quiet es eo v p k sh ou .output)
+compared-not : {n : ℕ} {sh ou : List Float} (asked : Conditions) (quiet : Bool) (es eo : List Float) (v : ℕ) (p : Paths) (k : ℕ) → runs asked ≡ false
+    → Both n sh ou → Both n (compared asked quiet es eo v p k sh ou .shadow) (compared asked quiet es eo v p k sh ou .output)
 unfolding compared acted shadowAfter outputAfter
-compared-not {n} {sh} {ou} runs quiet es eo v p k e W = off (λ (r : Comparison). Both n (r .shadow) (r .output)) runs _ e W
+compared-not asked quiet es eo v p k e W = rw (reason-idle asked (weighedIf asked quiet es eo v p) e) W
 
 compares-not : {k : ℕ} (adapt active : Bool) (near : List Float) (energy : Float) (n : ℕ) (f : Filtered) (m : Mic) → active ≡ false
     → Both k (f .output .shadow) (f .output .output)
@@ -371,7 +373,7 @@ compares-not : {k : ℕ} (adapt active : Bool) (near : List Float) (energy : Flo
 unfolding compares
 compares-not adapt active near energy n f m q W =
     compared-not _ _ (f .shadowError) (f .output .error) n (f .output .paths) (m .transfers)
-    (not-l _ _ (not-r (adapt && not (f .output .diverged)) active q)) W
+    (not-l _ _ (not-r (not (not adapt) && not (f .output .diverged)) active q)) W
 
 -- ---- step 7: no suppressor
 

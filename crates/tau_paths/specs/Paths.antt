@@ -1,5 +1,5 @@
 -- Step 5, the two-path comparison. Definitions only.
-use mathlib.Core.Bool.{Bool, true, false}
+use mathlib.Core.Bool.{Bool, true, false, not, _&&_}
 use mathlib.Core.List.{List}
 use Prim.Native.Nat.{ℕ}
 use lib.Dec.{ltb, leb}
@@ -13,6 +13,10 @@ use Rattle.tau_clears.specs.Weights.{leaked}
 use Rattle.tau_state.specs.declared.state.Paths.{Paths}
 use Rattle.tau_state.specs.declared.report.Outcome.{Outcome}
 use Rattle.tau_state.specs.declared.report.Outcome.the-variants.{NotRun, NoMove, Rescue, Move}
+use Rattle.tau_state.specs.declared.report.Reason.{Reason}
+use Rattle.tau_state.specs.declared.report.Reason.the-variants.{FlushBlock, OutputDiverged, FarNotActive, NotEstablished, Rescued, QuietStreakShort, NoOutputPower, NoAdvantage, Moved}
+use Rattle.tau_state.specs.Report.{outcomeOf}
+use Rattle.tau_paths.specs.declared.paths.Conditions.{Conditions}
 
 -- "Both error powers are smoothed by 0.9. A shadow power above 4.0 times the output power lengthens the rescue streak"; a quiet block
 -- lengthens the quiet streak; any other block sets them to 0
@@ -35,15 +39,25 @@ leakOf advantage = mul binary64 f0·75 (minOf (div binary64 advantage f0·5) one
 unfoldable pub advantageOf : Paths → Float
 advantageOf paths = sub binary64 one (div binary64 (paths .«shadow_error_power») (paths .«output_error_power»))
 
--- what the comparison decides: "at 8 the shadow becomes a copy of the output .. Otherwise, with a quiet streak of at least 6 .. and output
--- power above 0: .. at 0.1 or more, .. each weight moves"
-unfoldable pub verdict : Paths → Outcome
-verdict paths =
-    pick (leb 8 (paths .«rescue_streak»)) Rescue
-    (pick (ltb (paths .«quiet_streak») 6) NoMove
-    (pick (lt zero64 (paths .«output_error_power»))
-    (pick (le f0·1 (advantageOf paths)) (Move (leakOf (advantageOf paths))) NoMove)
-    NoMove))
+-- "only if not flushing, not diverged in 3, far active and established, the two-path comparison"
+abbrev pub runs : Conditions → Bool
+runs asked = not (asked .flushing) && not (asked .diverged) && asked .«far_is_active» && asked .established
+
+-- what is decided, of the powers and streaks as this block leaves them. Document 01: "at 8 the shadow becomes a copy of the output ..
+-- Otherwise, with a quiet streak of at least 6 .. and output power above 0: .. at 0.1 or more, .. each weight moves". K2: "the first that
+-- holds of .. flush block, output diverged, far not active, detector not established, rescued, quiet streak below 6, output power not above
+-- 0, advantage not at least 0.1; otherwise moved, with its leak". A NaN is not above 0, and not at least 0.1.
+unfoldable pub reasonOf : Conditions → Paths → Reason
+reasonOf asked paths =
+    pick (asked .flushing) FlushBlock
+    (pick (asked .diverged) OutputDiverged
+    (pick (not (asked .«far_is_active»)) FarNotActive
+    (pick (not (asked .established)) NotEstablished
+    (pick (leb 8 (paths .«rescue_streak»)) Rescued
+    (pick (ltb (paths .«quiet_streak») 6) QuietStreakShort
+    (pick (not (lt zero64 (paths .«output_error_power»))) NoOutputPower
+    (pick (not (le f0·1 (advantageOf paths))) NoAdvantage
+    (Moved (leakOf (advantageOf paths))))))))))
 
 -- and what follows: for the powers and streaks, the count of transfers, the shadow's weights and the output's
 unfoldable pub settled : Outcome → Paths → Paths
@@ -85,23 +99,30 @@ pub record Comparison : Type 0 where
   pub paths : Paths
   pub transfers : ℕ
   pub rescued : Bool
-  pub outcome : Outcome
+  pub reason : Reason
   pub shadow : List Float
   pub output : List Float
 
--- the acted-on outcome
-unfoldable pub acted : Outcome → Paths → ℕ → List Float → List Float → Comparison
-acted outcome paths transfers shadow output = record {
-  paths = settled outcome paths;
-  transfers = counted outcome transfers;
-  rescued = isRescue outcome;
-  outcome = outcome;
-  shadow = shadowAfter outcome shadow output;
-  output = outputAfter outcome shadow output;
-}
+-- the acted-on reason: all is what its outcome says
+unfoldable pub acted : Reason → Paths → ℕ → List Float → List Float → Comparison
+acted reason paths transfers shadow output =
+    let outcome = outcomeOf reason in
+    record {
+      paths = settled outcome paths;
+      transfers = counted outcome transfers;
+      rescued = isRescue outcome;
+      reason = reason;
+      shadow = shadowAfter outcome shadow output;
+      output = outputAfter outcome shadow output;
+    }
 
--- the whole comparison, of the two errors' first `valid` samples; where it does not run nothing moves
-unfoldable pub compared : Bool → Bool → List Float → List Float → ℕ → Paths → ℕ → List Float → List Float → Comparison
-compared runs quiet shadowError error valid paths transfers shadow output =
-    let after = weighed quiet (energyOf shadowError valid) (energyOf error valid) paths in
-    pick runs (acted (verdict after) after transfers shadow output) (acted NoMove paths transfers shadow output)
+-- the powers and streaks that are decided on: of the two errors' first `valid` samples; where the comparison does not run they stay
+unfoldable pub weighedIf : Conditions → Bool → List Float → List Float → ℕ → Paths → Paths
+weighedIf asked quiet shadowError error valid paths =
+    pick (runs asked) (weighed quiet (energyOf shadowError valid) (energyOf error valid) paths) paths
+
+-- the whole comparison
+unfoldable pub compared : Conditions → Bool → List Float → List Float → ℕ → Paths → ℕ → List Float → List Float → Comparison
+compared asked quiet shadowError error valid paths transfers shadow output =
+    let after = weighedIf asked quiet shadowError error valid paths in
+    acted (reasonOf asked after) after transfers shadow output

@@ -2,6 +2,8 @@
 use tau_clears::weights::copy;
 use tau_clears::weights::leak_to;
 use tau_state::report::Outcome;
+use tau_state::report::Reason;
+use tau_state::report::outcome_of;
 use tau_state::state::Paths;
 use tau_state::sums::energy;
 use tau_state::sums::one_more;
@@ -12,7 +14,7 @@ ghost use Prim.Native.Nat.{_≤_};
 ghost use lib.ListN.{length};
 ghost use Rattle.laws.specs.Choice.{pick};
 ghost use Rattle.laws.specs.Counting.{oneMore32};
-ghost use Rattle.tau_paths.specs.Paths.{weighed, leakOf, verdict, acted, compared};
+ghost use Rattle.tau_paths.specs.Paths.{weighed, leakOf, reasonOf, acted, compared};
 
 const PATH_ERROR_SMOOTHING: f64 = 0.9;
 
@@ -28,11 +30,19 @@ const TRANSFER_FULL_ADVANTAGE: f64 = 0.5;
 
 const TRANSFER_RATE_MAX: f64 = 0.75;
 
+// What is asked before the two paths are compared.
+pub struct Conditions {
+    pub flushing: bool,
+    pub diverged: bool,
+    pub far_is_active: bool,
+    pub established: bool,
+}
+
 pub struct Compared {
     pub paths: Paths,
     pub transfers: u64,
     pub rescued: bool,
-    pub outcome: Outcome,
+    pub reason: Reason,
 }
 
 // A streak goes on or ends.
@@ -65,29 +75,45 @@ fn leak(advantage: f64) -> f64
     TRANSFER_RATE_MAX * numbers::min(advantage / TRANSFER_FULL_ADVANTAGE, 1.0)
 }
 
-fn decide(q: Paths) -> Outcome
-    ensures { λ r. ⌜ r ≡ verdict q ⌝ }
+// Why the output filter is to stand still: the first reason that holds. Otherwise it is to move.
+fn decide(asked: Conditions, q: Paths) -> Reason
+    ensures { λ r. ⌜ r ≡ reasonOf asked q ⌝ }
 {
+    if asked.flushing {
+        return Reason::FlushBlock;
+    }
+    if asked.diverged {
+        return Reason::OutputDiverged;
+    }
+    if !asked.far_is_active {
+        return Reason::FarNotActive;
+    }
+    if !asked.established {
+        return Reason::NotEstablished;
+    }
     if RESCUE_STREAK_BLOCKS <= q.rescue_streak {
-        return Outcome::Rescue;
+        return Reason::Rescued;
     }
     if q.quiet_streak < TRANSFER_QUIET_STREAK_BLOCKS {
-        return Outcome::NoMove;
+        return Reason::QuietStreakShort;
     }
-    if 0.0 < q.output_error_power {
-        let advantage = 1.0 - q.shadow_error_power / q.output_error_power;
-        if TRANSFER_MIN_ADVANTAGE <= advantage {
-            return Outcome::Move(leak(advantage));
-        }
+    if !(0.0 < q.output_error_power) {
+        return Reason::NoOutputPower;
     }
-    Outcome::NoMove
+    let advantage = 1.0 - q.shadow_error_power / q.output_error_power;
+    if !(TRANSFER_MIN_ADVANTAGE <= advantage) {
+        return Reason::NoAdvantage;
+    }
+    Reason::Moved(leak(advantage))
 }
 
-fn act(o: Outcome, q: Paths, transfers: u64, shadow: &mut [f64], output: &mut [f64]) -> Compared
+// What is done is the reason's outcome, and nothing else decides it.
+fn act(reason: Reason, q: Paths, transfers: u64, shadow: &mut [f64], output: &mut [f64]) -> Compared
     requires { ⌜ length (now shadow) ≡ length (now output) ⌝ }
-    ensures { λ r. ⌜ record { paths = r .paths; transfers = r .transfers; rescued = r .rescued; outcome = r .outcome; shadow = now (shadow .exit); output = now (output .exit) } ≡ acted o q transfers (now (shadow .entry)) (now (output .entry)) ⌝ }
+    ensures { λ r. ⌜ record { paths = r .paths; transfers = r .transfers; rescued = r .rescued; reason = r .reason; shadow = now (shadow .exit); output = now (output .exit) } ≡ acted reason q transfers (now (shadow .entry)) (now (output .entry)) ⌝ }
 {
-    match o {
+    let outcome = outcome_of(reason);
+    match outcome {
         Outcome::Rescue => {
             copy(shadow, output);
             let mut p = q;
@@ -95,9 +121,9 @@ fn act(o: Outcome, q: Paths, transfers: u64, shadow: &mut [f64], output: &mut [f
             p.rescue_streak = 0;
             Compared {
                 paths: p,
-                transfers: transfers,
+                transfers,
                 rescued: true,
-                outcome: Outcome::Rescue,
+                reason,
             }
         }
         Outcome::Move(leak) => {
@@ -106,26 +132,26 @@ fn act(o: Outcome, q: Paths, transfers: u64, shadow: &mut [f64], output: &mut [f
                 paths: q,
                 transfers: one_more(transfers),
                 rescued: false,
-                outcome: Outcome::Move(leak),
+                reason,
             }
         }
         Outcome::NoMove => Compared {
             paths: q,
-            transfers: transfers,
+            transfers,
             rescued: false,
-            outcome: Outcome::NoMove,
+            reason,
         },
         Outcome::NotRun => Compared {
             paths: q,
-            transfers: transfers,
+            transfers,
             rescued: false,
-            outcome: Outcome::NotRun,
+            reason,
         },
     }
 }
 
 pub fn compare(
-    on: bool,
+    asked: Conditions,
     quiet: bool,
     shadow_error: &[f32; 256],
     error: &[f32; 256],
@@ -137,12 +163,13 @@ pub fn compare(
 ) -> Compared
     requires { ⌜ valid ≤ 256 ⌝ }
     requires { ⌜ length (now shadow) ≡ length (now output) ⌝ }
-    ensures { λ r. ⌜ record { paths = r .paths; transfers = r .transfers; rescued = r .rescued; outcome = r .outcome; shadow = now (shadow .exit); output = now (output .exit) } ≡ compared on quiet (now («shadow_error» .entry)) (now (error .entry)) valid p transfers (now (shadow .entry)) (now (output .entry)) ⌝ }
+    ensures { λ r. ⌜ record { paths = r .paths; transfers = r .transfers; rescued = r .rescued; reason = r .reason; shadow = now (shadow .exit); output = now (output .exit) } ≡ compared asked quiet (now («shadow_error» .entry)) (now (error .entry)) valid p transfers (now (shadow .entry)) (now (output .entry)) ⌝ }
 {
-    if on {
+    if !asked.flushing & !asked.diverged & asked.far_is_active & asked.established {
         let q = weigh(quiet, energy(shadow_error, valid), energy(error, valid), p);
-        let o = decide(q);
-        return act(o, q, transfers, shadow, output);
+        let reason = decide(asked, q);
+        return act(reason, q, transfers, shadow, output);
     }
-    act(Outcome::NoMove, p, transfers, shadow, output)
+    let reason = decide(asked, p);
+    act(reason, p, transfers, shadow, output)
 }

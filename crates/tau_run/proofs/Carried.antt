@@ -7,7 +7,7 @@ use lib.Ieee.{Float}
 use Rattle.tau_state.specs.Lent.{stateOf}
 use Rattle.tau_state.specs.declared.state.Far.{Far}
 use Rattle.tau_state.specs.declared.state.Mic.{Mic}
-use Rattle.tau_state.specs.declared.report.Outcome.{Outcome}
+use Rattle.tau_state.specs.declared.report.Told.{Told}
 use Rattle.tau_block.specs.Block.{Block, Engine, Ran, runBlock}
 use Rattle.tau_run.specs.Lent.{uncarried, ranOf}
 
@@ -16,13 +16,13 @@ abbrev pub carrying : ℕ → Bool → ℕ → List Float → List Float → Far
 carrying parts flag k ns fs far mic sh ou xs = record { state = stateOf parts flag k ns fs far mic; shadow = sh; output = ou; spectra = xs }
 
 pub run-carried : (parts : ℕ) (flag : Bool) (k : ℕ) (ns fs : List Float) (f : Far) (m : Mic) (far : List Float) (b : Block) (sh ou xs : List Float)
-    {f' : Far} {m' : Mic} {block : List Float} {outcome : Outcome} {sh' ou' xs' : List Float}
-    → ranOf (uncarried parts flag f' m' sh' ou' xs') block outcome ≡ runBlock (uncarried parts flag f m sh ou xs) far b
-    → ranOf (carrying parts flag k ns fs f' m' sh' ou' xs') block outcome ≡ runBlock (carrying parts flag k ns fs f m sh ou xs) far b
+    {f' : Far} {m' : Mic} {block : List Float} {told : Told} {sh' ou' xs' : List Float}
+    → ranOf (uncarried parts flag f' m' sh' ou' xs') block told ≡ runBlock (uncarried parts flag f m sh ou xs) far b
+    → ranOf (carrying parts flag k ns fs f' m' sh' ou' xs') block told ≡ runBlock (carrying parts flag k ns fs f m sh ou xs) far b
 unfolding runBlock
 run-carried parts flag k ns fs f m far b sh ou xs e =
     ap
     (λ (r : Ran).
     let a = r .engine in
-    ranOf (carrying parts flag k ns fs (a .state .far) (a .state .mic) (a .shadow) (a .output) (a .spectra)) (r .block) (r .outcome))
+    ranOf (carrying parts flag k ns fs (a .state .far) (a .state .mic) (a .shadow) (a .output) (a .spectra)) (r .block) (r .told))
     e

@@ -6,7 +6,7 @@ use lib.Ieee.{Float}
 use Rattle.tau_state.specs.Lent.{stateOf}
 use Rattle.tau_state.specs.declared.state.Far.{Far}
 use Rattle.tau_state.specs.declared.state.Mic.{Mic}
-use Rattle.tau_state.specs.declared.report.Outcome.{Outcome}
+use Rattle.tau_state.specs.declared.report.Told.{Told}
 use Rattle.tau_block.specs.Block.{Engine, Ran}
 
 -- partitions, whether it suppresses, the loudspeaker's part and the microphone's; then shadow, output and spectra; and no carry, which a
@@ -15,5 +15,5 @@ abbrev pub uncarried : ℕ → Bool → Far → Mic → List Float → List Floa
 uncarried partitions flag far mic shadow output spectra =
     record { state = stateOf partitions flag 0 [] [] far mic; shadow = shadow; output = output; spectra = spectra }
 
-abbrev pub ranOf : Engine → List Float → Outcome → Ran
-ranOf engine block outcome = record { engine = engine; block = block; outcome = outcome }
+abbrev pub ranOf : Engine → List Float → Told → Ran
+ranOf engine block told = record { engine = engine; block = block; told = told }

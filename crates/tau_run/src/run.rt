@@ -3,7 +3,7 @@ use tau_block::run_mic;
 use tau_spectra::far::hear;
 use tau_state::lent::rest_of;
 use tau_state::lent::whole;
-use tau_state::report::Outcome;
+use tau_state::report::Told;
 use tau_state::state::FarRest;
 use tau_state::state::MicRest;
 use tau_state::state::TauCanceller;
@@ -18,13 +18,13 @@ ghost use Rattle.tau_run.specs.Lent.{uncarried, ranOf};
 pub struct Blocked {
     pub state: TauCanceller,
     pub block: [f32; 256],
-    pub outcome: Outcome,
+    pub told: Told,
 }
 
 pub struct BlockedRest {
     pub far: FarRest,
     pub mic: MicRest,
-    pub outcome: Outcome,
+    pub told: Told,
 }
 
 // The table and the scratch are made once and lent to every transform of the block.
@@ -50,7 +50,7 @@ pub fn run_lent(
 ) -> BlockedRest
     requires { ⌜ (length (now shadow) ≡ 514 * partitions) × (length (now output) ≡ 514 * partitions) × (length (now spectra) ≡ 514 * partitions) ⌝ }
     requires { ⌜ (rest .head < partitions) × (partitions ≤ 32) × (valid ≤ 256) × (1 ≤ valid) ⌝ }
-    ensures { λ r. ⌜ ranOf (uncarried partitions flag (farOf (r .far) (now («far_window» .exit))) (micOf (r .mic) (now (means .exit)) (suppressorOf (now («echo_power» .exit)) (now («error_power» .exit)) (now (gain .exit)) (now (window .exit)))) (now (shadow .exit)) (now (output .exit)) (now (spectra .exit))) (now (block .exit)) (r .outcome) ≡ runBlock (uncarried partitions flag (farOf rest (now («far_window» .entry))) (micOf mic (now (means .entry)) (suppressorOf (now («echo_power» .entry)) (now («error_power» .entry)) (now (gain .entry)) (now (window .entry)))) (now (shadow .entry)) (now (output .entry)) (now (spectra .entry))) (now (far .entry)) (micBlock (now (near .entry)) valid adapt) ⌝ }
+    ensures { λ r. ⌜ ranOf (uncarried partitions flag (farOf (r .far) (now («far_window» .exit))) (micOf (r .mic) (now (means .exit)) (suppressorOf (now («echo_power» .exit)) (now («error_power» .exit)) (now (gain .exit)) (now (window .exit)))) (now (shadow .exit)) (now (output .exit)) (now (spectra .exit))) (now (block .exit)) (r .told) ≡ runBlock (uncarried partitions flag (farOf rest (now («far_window» .entry))) (micOf mic (now (means .entry)) (suppressorOf (now («echo_power» .entry)) (now («error_power» .entry)) (now (gain .entry)) (now (window .entry)))) (now (shadow .entry)) (now (output .entry)) (now (spectra .entry))) (now (far .entry)) (micBlock (now (near .entry)) valid adapt) ⌝ }
 {
     let table = trig::recombination();
     let mut scratch = [0.0f64; 1024];
@@ -89,11 +89,11 @@ pub fn run_lent(
         output,
     );
     let mic = listened.mic;
-    let outcome = listened.outcome;
+    let told = listened.told;
     BlockedRest {
         far: far_left,
         mic,
-        outcome,
+        told,
     }
 }
 
@@ -109,7 +109,7 @@ pub fn run_block(
 ) -> Blocked
     requires { ⌜ (length (now shadow) ≡ 514 * s .partitions) × (length (now output) ≡ 514 * s .partitions) × (length (now spectra) ≡ 514 * s .partitions) ⌝ }
     requires { ⌜ (s .far .head < s .partitions) × (s .partitions ≤ 32) × (valid ≤ 256) × (1 ≤ valid) ⌝ }
-    ensures { λ r. ⌜ ranOf (record { state = r .state; shadow = now (shadow .exit); output = now (output .exit); spectra = now (spectra .exit) }) (r .block) (r .outcome) ≡ runBlock (record { state = s; shadow = now (shadow .entry); output = now (output .entry); spectra = now (spectra .entry) }) far (micBlock near valid adapt) ⌝ }
+    ensures { λ r. ⌜ ranOf (record { state = r .state; shadow = now (shadow .exit); output = now (output .exit); spectra = now (spectra .exit) }) (r .block) (r .told) ≡ runBlock (record { state = s; shadow = now (shadow .entry); output = now (output .entry); spectra = now (spectra .entry) }) far (micBlock near valid adapt) ⌝ }
 {
     let mut far_window = s.far.window;
     let mut means = s.mic.far_power_mean;
@@ -141,7 +141,7 @@ pub fn run_block(
     );
     let heard = ran.far;
     let mic = ran.mic;
-    let outcome = ran.outcome;
+    let told = ran.told;
     rest.far = heard;
     rest.mic = mic;
     let near_carry = s.near_carry;
@@ -158,9 +158,5 @@ pub fn run_block(
         gain,
         window,
     );
-    Blocked {
-        state,
-        block,
-        outcome,
-    }
+    Blocked { state, block, told }
 }

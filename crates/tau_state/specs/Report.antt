@@ -6,7 +6,8 @@ use lib.Ieee.{Float}
 use Rattle.tau_state.specs.Constants.{zero64}
 use Rattle.tau_state.specs.declared.state.Mic.{Mic}
 use Rattle.tau_state.specs.declared.report.Report.{Report}
-use Rattle.tau_state.specs.declared.report.Told.{Told}
+use Rattle.tau_state.specs.declared.report.Last.{Last}
+use Rattle.tau_state.specs.declared.report.Last.the-variants.{NoneRan, Did}
 use Rattle.tau_state.specs.declared.report.Outcome.{Outcome}
 use Rattle.tau_state.specs.declared.report.Outcome.the-variants.{NotRun, NoMove, Rescue, Move}
 use Rattle.tau_state.specs.declared.report.Reason.{Reason}
@@ -53,16 +54,16 @@ outcomeOf NoOutputPower = NoMove
 outcomeOf NoAdvantage = NoMove
 outcomeOf (Moved leak) = Move leak
 
--- where no block ran
-abbrev pub untold : Told
-untold = record { reason = NoBlock }
+-- the last block's reason
+unfoldable pub reasonIn : Last → Reason
+reasonIn NoneRan = NoBlock
+reasonIn (Did told) = told .reason
 
--- the report, of the last block
-unfoldable pub reportOf : Mic → Told → Report
+unfoldable pub reportOf : Mic → Last → Report
 reportOf m last = record {
   transfers = m .transfers;
   «divergence_resets» = m .«divergence_resets»;
   «double_talk» = m .detector .«double_talk»;
-  outcome = outcomeOf (last .reason);
+  outcome = outcomeOf (reasonIn last);
   last = last;
 }

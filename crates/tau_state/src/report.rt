@@ -1,7 +1,7 @@
 // What a call says of the last block that it ran.
 use crate::state::Mic;
 ghost use mathlib.Core.Path.{_≡_};
-ghost use Rattle.tau_state.specs.Report.{numberOf, leakIn, reasonNumber, outcomeOf, untold, reportOf};
+ghost use Rattle.tau_state.specs.Report.{numberOf, leakIn, reasonNumber, outcomeOf, reasonIn, reportOf};
 
 // What a block did to the output filter: it did not run, no move, a rescue of the shadow, or a move with its leak.
 pub enum Outcome {
@@ -30,13 +30,19 @@ pub struct Told {
     pub reason: Reason,
 }
 
+// The last block that a call ran.
+pub enum Last {
+    NoneRan,
+    Did(Told),
+}
+
 // The counters and the verdict stand in the state; the outcome is that of the last block's reason.
 pub struct Report {
     pub transfers: u64,
     pub divergence_resets: u64,
     pub double_talk: bool,
     pub outcome: Outcome,
-    pub last: Told,
+    pub last: Last,
 }
 
 pub fn outcome_of(reason: Reason) -> Outcome
@@ -56,25 +62,24 @@ pub fn outcome_of(reason: Reason) -> Outcome
     }
 }
 
-// Where no block ran.
-pub fn nothing_told() -> Told
-    ensures { λ r. ⌜ r ≡ untold ⌝ }
+pub fn reason_of(last: Last) -> Reason
+    ensures { λ r. ⌜ r ≡ reasonIn last ⌝ }
 {
-    Told {
-        reason: Reason::NoBlock,
+    match last {
+        Last::NoneRan => Reason::NoBlock,
+        Last::Did(told) => told.reason,
     }
 }
 
-pub fn report_of(m: Mic, last: Told) -> Report
+pub fn report_of(m: Mic, last: Last) -> Report
     ensures { λ r. ⌜ r ≡ reportOf m last ⌝ }
 {
     let d = m.detector;
-    let reason = last.reason;
     Report {
         transfers: m.transfers,
         divergence_resets: m.divergence_resets,
         double_talk: d.double_talk,
-        outcome: outcome_of(reason),
+        outcome: outcome_of(reason_of(last)),
         last,
     }
 }

@@ -2,9 +2,9 @@
 --     leak-bounds, leak-moves      the leak is above 0 and at most 0.75, from an advantage of 0.1 on, and so in every move, whatever the powers
 --     leak-most                    from an advantage of 0.5 on it is 0.75
 --     count-small, judged-count    the detector's count of blocks stays at 64 or below
---     rescue-small, .. -streak     the rescue streak stays below 8: after the comparison, after each clear, and after the guard
-use mathlib.Core.Path.{_≡_, refl, sym, ap, subst}
-use mathlib.Core.Bool.{Bool, true, false, not}
+--     compared-streak, .. -streak  the rescue streak stays below 8: after the comparison, after each clear, and after the guard
+use mathlib.Core.Path.{_≡_, refl, sym, ap, subst, _∙_}
+use mathlib.Core.Bool.{Bool, true, false, not, true≢false}
 use mathlib.Core.List.{List}
 use Prim.Native.Nat.{ℕ, _*_, _≤_, _<_}
 use native.Mathlib.Nat.{mul-one, zero-mul, one-mul, mul-pos}
@@ -26,7 +26,8 @@ use Rattle.tau_steps.specs.Bounds.{Leak}
 use Rattle.tau_state.specs.Sums.{energyOf}
 use Rattle.tau_clears.specs.Clears.{divergeShadow, divergeOf, retireOutput}
 use Rattle.tau_detector.specs.Detector.{countOf, evidence, learned, stands, judged}
-use Rattle.tau_paths.specs.Paths.{weighed, leakOf, advantageOf, verdict, settled, Comparison, acted, compared}
+use Rattle.tau_paths.specs.Paths.{runs, weighed, leakOf, advantageOf, reasonOf, settled, acted, weighedIf, compared}
+use Rattle.tau_paths.specs.declared.paths.Conditions.{Conditions}
 use Rattle.tau_guard.specs.Guard.{watched, trips, Guarded, guarded}
 use Rattle.tau_state.specs.declared.state.Detector.{Detector}
 use Rattle.tau_state.specs.declared.state.Guard.{Guard}
@@ -34,6 +35,9 @@ use Rattle.tau_state.specs.declared.state.Paths.{Paths}
 use Rattle.tau_state.specs.declared.state.Suppressor.{Suppressor}
 use Rattle.tau_state.specs.declared.report.Outcome.{Outcome}
 use Rattle.tau_state.specs.declared.report.Outcome.the-variants.{NotRun, NoMove, Rescue, Move}
+use Rattle.tau_state.specs.declared.report.Reason.the-variants.{Moved}
+use Rattle.tau_state.specs.Report.{outcomeOf}
+use Rattle.tau_steps.proofs.Reasons.{reason-if, reason-idle}
 
 -- ---- the leak
 
@@ -119,18 +123,11 @@ Carries NoMove = T true
 Carries Rescue = T true
 Carries (Move leak) = Leak leak
 
-carries : (q : Paths) → Carries (verdict q)
-unfolding verdict
-carries q =
-    pick-if Carries (leb 8 (q .«rescue_streak»)) (λ _. tt)
-    (λ _. pick-if Carries (ltb (q .«quiet_streak») 6) (λ _. tt)
-    (λ _. pick-if Carries (lt zero64 (q .«output_error_power»))
-    (λ _. pick-if Carries (le f0·1 (advantageOf q)) (λ h. leak-bounds (advantageOf q) (subst T (sym h) tt)) (λ _. tt))
-    (λ _. tt)))
-
 -- So of every move, whatever the powers.
-pub leak-moves : (q : Paths) (leak : Float) → verdict q ≡ Move leak → Leak leak
-leak-moves q leak h = subst Carries h (carries q)
+pub leak-moves : (asked : Conditions) (q : Paths) (leak : Float) → reasonOf asked q ≡ Moved leak → Leak leak
+unfolding outcomeOf
+leak-moves asked q leak h =
+    subst Carries (ap outcomeOf h) (reason-if Carries asked q (λ _. tt) (λ _ _. tt) (λ _ _. tt) (λ _ _ t. leak-bounds (advantageOf q) t))
 
 -- at 1 or more the quotient is held to 1
 held : (q : Float) → T (fits binary64 q) → T (le one q) → minOf q one ≡ one
@@ -160,23 +157,22 @@ judged-count active energy near est n d h = pick-if (λ (r : Detector). r .«dtd
 
 -- ---- the rescue streak
 
--- At 8 the comparison rescues, which sets it to 0, so what it leaves is below 8,
-pub rescue-small : (q : Paths) → settled (verdict q) q .«rescue_streak» < 8
-unfolding settled verdict
-rescue-small q =
-    let Q : Outcome → Type 0 = λ o. settled o q .«rescue_streak» < 8 in
-    pick-if Q (leb 8 (q .«rescue_streak»)) (λ _. omega arith)
-    (λ h. let l : q .«rescue_streak» < 8 = leb-false 8 (q .«rescue_streak») h in
-    pick-if Q (ltb (q .«quiet_streak») 6) (λ _. l)
-    (λ _. pick-if Q (lt zero64 (q .«output_error_power»)) (λ _. pick-if Q (le f0·1 (advantageOf q)) (λ _. l) (λ _. l)) (λ _. l)))
+-- At 8 the comparison rescues, which sets it to 0, so what it leaves is below 8, where it runs
+weighed-streak : (asked : Conditions) (q : Paths) → runs asked ≡ true → settled (outcomeOf (reasonOf asked q)) q .«rescue_streak» < 8
+unfolding settled
+weighed-streak asked q on =
+    let small : leb 8 (q .«rescue_streak») ≡ false → q .«rescue_streak» < 8 = leb-false 8 (q .«rescue_streak») in
+    reason-if (λ o. settled o q .«rescue_streak» < 8) asked q (λ z. absurd (true≢false (sym on ∙ z))) (λ _ _. omega arith) (λ _ h. small h)
+    (λ _ h _. small h)
 
--- whether it runs or not;
-pub compared-streak : (on quiet : Bool) (es eo : List Float) (v : ℕ) (p : Paths) (n : ℕ) (sh ou : List Float) → p .«rescue_streak» < 8
-    → compared on quiet es eo v p n sh ou .paths .«rescue_streak» < 8
-unfolding compared acted
-compared-streak on quiet es eo v p n sh ou h =
-    pick-if (λ (r : Comparison). r .paths .«rescue_streak» < 8) on
-    (λ _. rescue-small (weighed quiet (energyOf es v) (energyOf eo v) p)) (λ _. unfold settled in h)
+-- and where it does not;
+pub compared-streak : (asked : Conditions) (quiet : Bool) (es eo : List Float) (v : ℕ) (p : Paths) (n : ℕ) (sh ou : List Float) → p .«rescue_streak» < 8
+    → compared asked quiet es eo v p n sh ou .paths .«rescue_streak» < 8
+unfolding compared acted weighedIf
+compared-streak asked quiet es eo v p n sh ou h =
+    pick-if (λ (q : Paths). settled (outcomeOf (reasonOf asked q)) q .«rescue_streak» < 8) (runs asked)
+    (λ on. weighed-streak asked (weighed quiet (energyOf es v) (energyOf eo v) p) on)
+    (λ z. unfold settled in rw (reason-idle asked p z) h)
 
 -- the clears set it to 0,
 pub diverge-shadow-streak : (p : Paths) (m : ℕ) (sh : List Float) → divergeShadow p m sh .paths .«rescue_streak» < 8

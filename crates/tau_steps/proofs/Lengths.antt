@@ -14,7 +14,8 @@ use Rattle.tau_state.specs.Constants.{zero64, f0·5}
 use Rattle.tau_state.specs.Sums.{energyOf}
 use Rattle.tau_clears.specs.Weights.{cleared, halved, leaked}
 use Rattle.tau_clears.specs.Clears.{divergeShadow, divergeOf, retireOutput}
-use Rattle.tau_paths.specs.Paths.{weighed, verdict, shadowAfter, outputAfter, Comparison, acted, compared}
+use Rattle.tau_paths.specs.Paths.{shadowAfter, outputAfter, acted, compared}
+use Rattle.tau_paths.specs.declared.paths.Conditions.{Conditions}
 use Rattle.tau_guard.specs.Guard.{watched, trips, replaced, Guarded, guarded}
 use Rattle.tau_state.specs.declared.state.Guard.{Guard}
 use Rattle.tau_state.specs.declared.state.Paths.{Paths}
@@ -60,17 +61,10 @@ after-lengths k NoMove sh ou h = h
 after-lengths k Rescue sh ou h = record { shadow = h .output; output = h .output }
 after-lengths k (Move leak) sh ou h = record { shadow = h .shadow; output = leaked-length leak sh ou ∙ h .output }
 
-acted-lengths : (k : ℕ) (o : Outcome) (q : Paths) (n : ℕ) (sh ou : List Float) → Level k sh ou → Level k (acted o q n sh ou .shadow) (acted o q n sh ou .output)
-unfolding acted
-acted-lengths k o q n sh ou h = after-lengths k o sh ou h
-
-pub compared-lengths : (k : ℕ) (on quiet : Bool) (es eo : List Float) (v : ℕ) (p : Paths) (n : ℕ) (sh ou : List Float) → Level k sh ou
-    → Level k (compared on quiet es eo v p n sh ou .shadow) (compared on quiet es eo v p n sh ou .output)
-unfolding compared
-compared-lengths k on quiet es eo v p n sh ou h =
-    let q = weighed quiet (energyOf es v) (energyOf eo v) p in
-    pick-if (λ (r : Comparison). Level k (r .shadow) (r .output)) on
-    (λ _. acted-lengths k (verdict q) q n sh ou h) (λ _. acted-lengths k NoMove p n sh ou h)
+pub compared-lengths : (k : ℕ) (asked : Conditions) (quiet : Bool) (es eo : List Float) (v : ℕ) (p : Paths) (n : ℕ) (sh ou : List Float) → Level k sh ou
+    → Level k (compared asked quiet es eo v p n sh ou .shadow) (compared asked quiet es eo v p n sh ou .output)
+unfolding compared acted
+compared-lengths k asked quiet es eo v p n sh ou h = after-lengths k _ sh ou h
 
 replaced-length : (near : List Float) (n : ℕ) (block : List Float) → length (replaced near n block) ≡ length block
 unfolding replaced

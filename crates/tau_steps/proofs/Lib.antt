@@ -1,3 +1,4 @@
+pub mod Reasons
 pub mod Bounds
 pub mod Lengths
 pub mod Marked

@@ -1,11 +1,11 @@
-use Rattle.tau_paths.specs.Paths.{compared}
-use Rattle.laws.specs.Choice.{choices, pick-yes}
+use Rattle.tau_paths.specs.Paths.{compared, weighedIf}
+use Rattle.laws.specs.Choice.{pick}
 use borrow.Author.Needs.{needs}
 use Rattle.tau_paths.proofs.paths.compare.Statement.{statement}
 use Rattle.tau_paths.proofs.paths.compare.Tie as tie
 
 pub compare-spec : {M : Type 1} → statement M
-unfolding compared
+unfolding compared weighedIf pick
 compare-spec =
     tie.close
     (tie.spec
@@ -16,8 +16,16 @@ compare-spec =
     (λ c κs. search needs)
     (λ c. search needs)
     (λ c. search needs)
-    (λ c. pick-yes _ _ _ (search needs) (cc))
+    (λ c. let at-act = c .before .before .before .before in
+    let at-decide = at-act .before .before .before in
+    let at-weigh = at-decide .before in
+    let at-output = at-weigh .before in
+    let at-shadow = at-output .before in
+    rw (at-shadow .before .if1 .taken, ← at-shadow .energy .ensures, ← at-output .energy2 .ensures, ← at-weigh .weigh .ensures, ← at-decide .decide .ensures) (at-act .act .ensures))
+    (λ c κs. search needs)
     (λ c κs. search needs)
     (λ c. search needs)
     (λ c. search needs)
-    (λ c. search (needs, choices)))
+    (λ c. let at-act = c .before .before .before .before in
+    let at-decide = at-act .before .before .before in
+    rw (at-decide .before .if1 .left, ← at-decide .decide2 .ensures) (at-act .act2 .ensures)))

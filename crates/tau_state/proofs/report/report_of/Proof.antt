@@ -9,4 +9,5 @@ report-of-spec =
     tie.close
     (tie.spec
     (λ c κs. search needs)
-    (λ c. rw (c .outcome-of .ensures)))
+    (λ c κs. search needs)
+    (λ c. rw (c .outcome-of .ensures, c .before .reason-of .ensures)))
