@@ -9,8 +9,8 @@ use Rattle.laws.specs.Choice.{pick}
 use Rattle.tau_state.specs.Constants.{zero64}
 use Rattle.tau_state.specs.Report.{reportOf}
 use Rattle.tau_state.specs.declared.state.TauCanceller.{TauCanceller}
-use Rattle.tau_state.specs.declared.report.Outcome.{Outcome}
-use Rattle.tau_state.specs.declared.report.Outcome.the-variants.{NotRun}
+use Rattle.tau_state.specs.declared.report.Last.{Last}
+use Rattle.tau_state.specs.declared.report.Last.the-variants.{NoneRan}
 use Rattle.tau.specs.declared.calls.Started.{Started}
 use Rattle.tau.specs.declared.calls.Answer.{Answer}
 use Rattle.tau_fresh.specs.Fresh.{freshOf, emptyOf}
@@ -57,12 +57,12 @@ resetOf e =
     (record { answer = record { refusal = refusal; state = s }; shadow = e .shadow; output = e .output; spectra = e .spectra })
 
 -- the report is of the last block; "Where none ran, refusals included, the outcome is a fourth case .. and the rest is read from the state"
-abbrev pub answerOf : ℕ → ℕ → TauCanceller → Outcome → Answer
-answerOf refusal delivered s o = record { refusal = refusal; delivered = delivered; state = s; report = reportOf (s .mic) o }
+abbrev pub answerOf : ℕ → ℕ → TauCanceller → Last → Answer
+answerOf refusal delivered s last = record { refusal = refusal; delivered = delivered; state = s; report = reportOf (s .mic) last }
 
 -- "Each of 1 to 6 returns its number, zero delivered and the state as given, and writes nothing."
 abbrev pub refusedOf : ℕ → Engine → List Float → Called
-refusedOf refusal e out = record { answer = answerOf refusal 0 (e .state) NotRun; shadow = e .shadow; output = e .output; spectra = e .spectra; out = out }
+refusedOf refusal e out = record { answer = answerOf refusal 0 (e .state) NoneRan; shadow = e .shadow; output = e .output; spectra = e .spectra; out = out }
 
 -- "Answer 0 writes only the first `delivered` places of the output buffer."
 abbrev pub servedOf : Run → List Float → Called

@@ -14,7 +14,7 @@ use tau_fresh::refusals::state_refusal;
 use tau_state::lent::Rest;
 use tau_state::lent::rest_of;
 use tau_state::lent::whole;
-use tau_state::report::Outcome;
+use tau_state::report::Last;
 use tau_state::report::Report;
 use tau_state::report::report_of;
 use tau_state::state::TauCanceller;
@@ -40,7 +40,7 @@ pub struct Answer {
     pub report: Report,
 }
 
-fn answer_of(refusal: u32, delivered: usize, s: TauCanceller, last: Outcome) -> Answer
+fn answer_of(refusal: u32, delivered: usize, s: TauCanceller, last: Last) -> Answer
     ensures { λ r. ⌜ r ≡ answerOf refusal delivered s last ⌝ }
 {
     Answer {

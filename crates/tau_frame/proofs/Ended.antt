@@ -11,6 +11,7 @@ use lib.ListN.{length, take, drop, length-append}
 use lib.Seq.{take-at, drop-at, length-take-le}
 use Rattle.laws.specs.Choice.{pick-no}
 use Rattle.tau_state.specs.declared.state.TauCanceller.{TauCanceller}
+use Rattle.tau_state.specs.declared.report.Last.the-variants.{Did}
 use Rattle.tau_block.specs.Block.{Ran, runBlock}
 use Rattle.tau_frame.specs.Pairs.{Engine, Run, emptied, blockOf, padded, flushedOf}
 use Rattle.tau_frame.proofs.Going.{block-long}
@@ -19,7 +20,7 @@ pub record Flushed (s : TauCanceller) (sh ou xs out : List Float) (r : Ran) (out
   pub run : _≡_ {A = Run} (record {
     engine = r .engine;
     samples = take (s .carried) out';
-    last = r .outcome;
+    last = Did (r .told);
   }) (flushedOf (record { state = s; shadow = sh; output = ou; spectra = xs }))
   pub tail : drop (s .carried) out' ≡ drop (s .carried) out
   pub room : s .carried ≤ length out'

@@ -1,23 +1,19 @@
--- The outcome of the later of two: what `lastOf` makes of three, and of one that says that no block ran. Assumes nothing.
+-- The last block of two: what `lastOf` makes of three, and of a part in which none ran. Assumes nothing.
 use mathlib.Core.Path.{_≡_, refl}
-use Rattle.tau_state.specs.declared.report.Outcome.{Outcome}
-use Rattle.tau_state.specs.declared.report.Outcome.the-variants.{NotRun, NoMove, Rescue, Move}
+use Rattle.tau_state.specs.declared.report.Last.{Last}
+use Rattle.tau_state.specs.declared.report.Last.the-variants.{NoneRan, Did}
 use Rattle.tau_frame.specs.Pairs.{lastOf}
 
-pub last-none : (o : Outcome) → lastOf o NotRun ≡ o
+pub last-none : (l : Last) → lastOf l NoneRan ≡ l
 unfolding lastOf
-last-none o = refl
+last-none l = refl
 
-pub last-first : (o : Outcome) → lastOf NotRun o ≡ o
+pub last-first : (l : Last) → lastOf NoneRan l ≡ l
 unfolding lastOf
-last-first NotRun = refl
-last-first NoMove = refl
-last-first Rescue = refl
-last-first (Move leak) = refl
+last-first NoneRan = refl
+last-first (Did told) = refl
 
-pub last-assoc : (a b c : Outcome) → lastOf a (lastOf b c) ≡ lastOf (lastOf a b) c
+pub last-assoc : (a b c : Last) → lastOf a (lastOf b c) ≡ lastOf (lastOf a b) c
 unfolding lastOf
-last-assoc a b NotRun = refl
-last-assoc a b NoMove = refl
-last-assoc a b Rescue = refl
-last-assoc a b (Move leak) = refl
+last-assoc a b NoneRan = refl
+last-assoc a b (Did told) = refl

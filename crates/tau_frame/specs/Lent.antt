@@ -8,7 +8,7 @@ use Rattle.numbers.specs.Finite.{finiteOrZero}
 use Rattle.tau_state.specs.Lent.{wholeOf}
 use Rattle.tau_state.specs.declared.lent.Rest.{Rest}
 use Rattle.tau_state.specs.declared.state.Suppressor.{Suppressor}
-use Rattle.tau_state.specs.declared.report.Outcome.the-variants.{NotRun}
+use Rattle.tau_state.specs.declared.report.Last.the-variants.{NoneRan}
 use Rattle.tau_frame.specs.declared.frame.Framed.{Framed}
 use Rattle.tau_frame.specs.Pairs.{Engine}
 
@@ -27,4 +27,4 @@ carriedIn r n = record { partitions = r .partitions; suppress = r .suppress; car
 
 -- no block run
 abbrev pub unmoved : Rest → Framed
-unmoved r = record { rest = r; delivered = 0; last = NotRun }
+unmoved r = record { rest = r; delivered = 0; last = NoneRan }

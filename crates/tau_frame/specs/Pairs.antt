@@ -11,21 +11,21 @@ use Rattle.laws.specs.Choice.{pick}
 use Rattle.numbers.specs.Finite.{finiteOrZero}
 use Rattle.tau_state.specs.Constants.{zero32}
 use Rattle.tau_state.specs.declared.state.TauCanceller.{TauCanceller}
-use Rattle.tau_state.specs.declared.report.Outcome.{Outcome}
-use Rattle.tau_state.specs.declared.report.Outcome.the-variants.{NotRun, NoMove, Rescue, Move}
+use Rattle.tau_state.specs.declared.report.Last.{Last}
+use Rattle.tau_state.specs.declared.report.Last.the-variants.{NoneRan, Did}
 use Rattle.tau_block.specs.Block.{runBlock}
 pub use Rattle.tau_block.specs.Block.{Engine}
 pub use Rattle.tau_fresh.specs.Refusals.{deliversOf}
 
--- what pairs, or a flush, make of it: the engine after them, the samples delivered, and what the last block did
+-- what pairs, or a flush, make of it: the engine after them, the samples delivered, and the last block
 pub record Run : Type 0 where
   pub engine : Engine
   pub samples : List Float
-  pub last : Outcome
+  pub last : Last
 
 -- where no block is run
 abbrev pub waitsOf : Engine → Run
-waitsOf e = record { engine = e; samples = []; last = NotRun }
+waitsOf e = record { engine = e; samples = []; last = NoneRan }
 
 -- the state with another carry
 abbrev pub carrying : TauCanceller → List Float → List Float → ℕ → TauCanceller
@@ -49,7 +49,7 @@ emptied e =
 unfoldable pub blockOf : Engine → List Float → List Float → ℕ → Bool → Run
 blockOf e near far n adapt =
     let ran = runBlock (emptied e) far (record { near = near; valid = n; adapt = adapt }) in
-    record { engine = ran .engine; samples = take n (ran .block); last = ran .outcome }
+    record { engine = ran .engine; samples = take n (ran .block); last = Did (ran .told) }
 
 -- the pair in the carry, at its end
 abbrev pub placed : TauCanceller → Float → Float → TauCanceller
@@ -65,12 +65,10 @@ pairOf e x y =
     let f = fillOf e x y in
     pick (eqb (e .state .carried) 255) (blockOf f (f .state .«near_carry») (f .state .«far_carry») 256 true) (waitsOf f)
 
--- the outcome of the later of two, where a block ran in it
-unfoldable pub lastOf : Outcome → Outcome → Outcome
-lastOf o NotRun = o
-lastOf o NoMove = NoMove
-lastOf o Rescue = Rescue
-lastOf o (Move leak) = Move leak
+-- the last block of two, one after the other: the later one's, where a block ran in it
+unfoldable pub lastOf : Last → Last → Last
+lastOf earlier NoneRan = earlier
+lastOf earlier (Did told) = Did told
 
 -- all pairs of two lists, one after the other
 unfoldable pub pairsOf : Engine → List Float → List Float → Run

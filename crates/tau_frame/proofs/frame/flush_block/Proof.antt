@@ -30,10 +30,11 @@ flush-block-spec =
     (λ c. search needs)
     (λ c. search needs)
     (λ c. search needs)
-    (λ c. let ran = c .before .before .before .before .before .before .before .before .before .before .before .before .before in
+    (λ c. let at-put = c .before .before .before .before .before in
+    let ran = at-put .before .before .before .before .before .before .before .before .before in
     let padded = ran .before .before .before .before .before .before .before .before .before .before .before .before .before in
     let left = padded .before .before .before .before in
     let p = left .before .before .before .before .before .pre in
     let z = flush-is _ _ _ _ _ _ _ (padded .before .before .pad .ensures) (padded .pad2 .ensures) (left .if1 .left) (p .0 .waiting) (p .1 .1)
-    _ (run-carried _ _ 0 _ _ _ _ _ _ _ _ _ (ran .run-lent .ensures)) _ (c .before .before .before .before .put .ensures) in
+    _ (run-carried _ _ 0 _ _ _ _ _ _ _ _ _ (ran .run-lent .ensures)) _ (at-put .put .ensures) in
     (z .run, (z .tail, z .room))))
