@@ -170,6 +170,74 @@ enum aspeyruni_outcome {
     ASPEYRUNI_OUTCOME_MOVE = 3    /* the output filter moved towards the shadow, by the share `leak`: above 0, at most 0.75 */
 };
 
+/* The field `reason`: why the output filter did not move in the call's last block. It is the first of these that holds, in this order, or
+ * else that it moved. So where no transfer comes for minutes, it says what to look at.
+ *
+ * It is of the block rule's own test, on the two error powers and the quiet streak after this block's smoothing. A rescue, the shadow's
+ * update and the guard change some of these before the call is over, so it cannot be worked out from the state that comes back. A call that
+ * fills no block says 0, and so do a flush of nothing and a refused call; of several blocks in a call it is the last one's.
+ *
+ * `outcome` follows from it: 0 is NOT_RUN, 5 is RESCUE, 9 is MOVE, and every other is NO_MOVE. */
+enum aspeyruni_reason {
+    /* No block ran. Expect it in between where a call has fewer than 256 pairs. */
+    ASPEYRUNI_REASON_NO_BLOCK = 0,
+    /* The block is what a flush found waiting, filled up with zeros. No filter learns from it. Expect it of every flush that delivers. */
+    ASPEYRUNI_REASON_FLUSH_BLOCK = 1,
+    /* The output filter gave a sample that is not finite. Both filters were cleared, which `divergence_resets` counts, and learn anew.
+     * Expect it never; where it comes, look for samples far beyond full scale. */
+    ASPEYRUNI_REASON_OUTPUT_DIVERGED = 2,
+    /* The loudspeaker is silent: the far end's block has at most 1e-4 of the energy of its loudest block since create or reset. Expect it
+     * in every pause. Where the far end is heard all the same, a block before was a hundred times as loud, and only a reset forgets it. */
+    ASPEYRUNI_REASON_FAR_NOT_ACTIVE = 3,
+    /* The detector of double talk has learnt from fewer than 64 blocks, this one included: from those that are far active and in which the
+     * microphone is not muted. Expect it for the first second of far sound at 16 kHz. While the microphone gives only zeros it stays. */
+    ASPEYRUNI_REASON_NOT_ESTABLISHED = 4,
+    /* The shadow filter, the one that learns, became a copy of the output filter, since its smoothed error power was above four times the
+     * output's in 8 blocks in a row. The output filter is as it was, so nothing is heard of it. Expect it seldom. */
+    ASPEYRUNI_REASON_RESCUED = 5,
+    /* Fewer than 6 blocks in a row were without double talk; those with a reason from 0 to 4 do not count, and end no row. Expect it in the
+     * first five blocks of an established detector, and while someone speaks in the room and five blocks longer. Where it stays, near has
+     * little of what the far end played in the last 256 * P samples. */
+    ASPEYRUNI_REASON_QUIET_STREAK_SHORT = 6,
+    /* The output filter's smoothed error power is 0, or a NaN: it leaves nothing of what the microphone hears, so there is nothing to gain.
+     * Expect it at most of a microphone that gives only zeros after the output diverged. */
+    ASPEYRUNI_REASON_NO_OUTPUT_POWER = 7,
+    /* The shadow is not better by enough: its smoothed error power has to be at least a tenth below the output filter's. Expect it
+     * from when the echo is learnt, until it changes. Where echo is heard all the same, the shadow does not learn that echo either. */
+    ASPEYRUNI_REASON_NO_ADVANTAGE = 8,
+    /* It moved, by the share `leak`. */
+    ASPEYRUNI_REASON_MOVED = 9
+};
+
+/* The reason in words, for a log. */
+static inline const char *aspeyruni_reason_words(uint32_t reason)
+{
+    switch (reason) {
+    case ASPEYRUNI_REASON_NO_BLOCK:
+        return "no block run";
+    case ASPEYRUNI_REASON_FLUSH_BLOCK:
+        return "flush block";
+    case ASPEYRUNI_REASON_OUTPUT_DIVERGED:
+        return "output diverged";
+    case ASPEYRUNI_REASON_FAR_NOT_ACTIVE:
+        return "far not active";
+    case ASPEYRUNI_REASON_NOT_ESTABLISHED:
+        return "detector not established";
+    case ASPEYRUNI_REASON_RESCUED:
+        return "rescued";
+    case ASPEYRUNI_REASON_QUIET_STREAK_SHORT:
+        return "quiet streak below 6";
+    case ASPEYRUNI_REASON_NO_OUTPUT_POWER:
+        return "output power not above 0";
+    case ASPEYRUNI_REASON_NO_ADVANTAGE:
+        return "advantage not at least 0.1";
+    case ASPEYRUNI_REASON_MOVED:
+        return "moved";
+    default:
+        return "unknown reason";
+    }
+}
+
 struct aspeyruni_tau_answer {
     uint32_t refusal;
     size_t delivered;
@@ -178,6 +246,7 @@ struct aspeyruni_tau_answer {
     uint64_t divergence_resets;
     bool double_talk;
     uint32_t outcome;
+    uint32_t reason;
     double leak;
 };
 

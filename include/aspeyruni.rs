@@ -166,6 +166,65 @@ pub mod tau {
         pub const MOVE: u32 = 3;
     }
 
+    /// The field `reason`: why the output filter did not move in the call's last block. It is the first of these that holds, in this
+    /// order, or else that it moved. So where no transfer comes for minutes, it says what to look at.
+    ///
+    /// It is of the block rule's own test, on the two error powers and the quiet streak after this block's smoothing. A rescue, the
+    /// shadow's update and the guard change some of these before the call is over, so it cannot be worked out from the state that comes
+    /// back. A call that fills no block says 0, and so do a flush of nothing and a refused call; of several blocks in a call it is the
+    /// last one's.
+    ///
+    /// The field `outcome` follows from it: 0 is `NOT_RUN`, 5 is `RESCUE`, 9 is `MOVE`, and every other is `NO_MOVE`.
+    pub mod reason {
+        /// No block ran. Expect it in between where a call has fewer than 256 pairs.
+        pub const NO_BLOCK: u32 = 0;
+        /// The block is what a flush found waiting, filled up with zeros. No filter learns from it. Expect it of every flush that delivers.
+        pub const FLUSH_BLOCK: u32 = 1;
+        /// The output filter gave a sample that is not finite. Both filters were cleared, which `divergence_resets` counts, and learn
+        /// anew. Expect it never; where it comes, look for samples far beyond full scale.
+        pub const OUTPUT_DIVERGED: u32 = 2;
+        /// The loudspeaker is silent: the far end's block has at most 1e-4 of the energy of its loudest block since create or reset.
+        /// Expect it in every pause. Where the far end is heard all the same, a block before was a hundred times as loud, and only a reset
+        /// forgets it.
+        pub const FAR_NOT_ACTIVE: u32 = 3;
+        /// The detector of double talk has learnt from fewer than 64 blocks, this one included: from those that are far active and in
+        /// which the microphone is not muted. Expect it for the first second of far sound at 16 kHz. While the microphone gives only zeros
+        /// it stays.
+        pub const NOT_ESTABLISHED: u32 = 4;
+        /// The shadow filter, the one that learns, became a copy of the output filter, since its smoothed error power was above four
+        /// times the output's in 8 blocks in a row. The output filter is as it was, so nothing is heard of it. Expect it seldom.
+        pub const RESCUED: u32 = 5;
+        /// Fewer than 6 blocks in a row were without double talk; those with a reason from 0 to 4 do not count, and end no row. Expect it
+        /// in the first five blocks of an established detector, and while someone speaks in the room and five blocks longer. Where it
+        /// stays, near has little of what the far end played in the last 256 * P samples.
+        pub const QUIET_STREAK_SHORT: u32 = 6;
+        /// The output filter's smoothed error power is 0, or a NaN: it leaves nothing of what the microphone hears, so there is nothing to
+        /// gain. Expect it at most of a microphone that gives only zeros after the output diverged.
+        pub const NO_OUTPUT_POWER: u32 = 7;
+        /// The shadow is not better by enough: its smoothed error power has to be at least a tenth below the output filter's. Expect it
+        /// from when the echo is learnt, until it changes. Where echo is heard all the same, the shadow does not learn that echo either.
+        pub const NO_ADVANTAGE: u32 = 8;
+        /// It moved, by the share `leak`.
+        pub const MOVED: u32 = 9;
+
+        /// The reason in words, for a log.
+        pub const fn words(reason: u32) -> &'static str {
+            match reason {
+                NO_BLOCK => "no block run",
+                FLUSH_BLOCK => "flush block",
+                OUTPUT_DIVERGED => "output diverged",
+                FAR_NOT_ACTIVE => "far not active",
+                NOT_ESTABLISHED => "detector not established",
+                RESCUED => "rescued",
+                QUIET_STREAK_SHORT => "quiet streak below 6",
+                NO_OUTPUT_POWER => "output power not above 0",
+                NO_ADVANTAGE => "advantage not at least 0.1",
+                MOVED => "moved",
+                _ => "unknown reason",
+            }
+        }
+    }
+
     /// The shadow weights, the output weights and the far spectra, each of `NUMBERS` for each partition.
     pub type Lent<'a> = [&'a mut [f64]; 3];
 
@@ -267,6 +326,7 @@ pub mod tau {
         pub divergence_resets: u64,
         pub double_talk: bool,
         pub outcome: u32,
+        pub reason: u32,
         pub leak: f64,
     }
 
@@ -378,6 +438,7 @@ pub mod tau {
                 divergence_resets: state.mic.divergence_resets,
                 double_talk: state.mic.detector.double_talk,
                 outcome: outcome::NOT_RUN,
+                reason: reason::NO_BLOCK,
                 leak: 0.0,
             }
         }
