@@ -14,7 +14,7 @@ pub mod raw;
 pub use raw::MAX_PAIRS;
 pub use refusal::Refusal;
 pub use rho::{Rho, RhoReport};
-pub use tau::{Outcome, Report, Tau};
+pub use tau::{Outcome, Reason, Report, Tau};
 
 /// An engine may be made in one thread and run in another.
 const _: () = {

@@ -1,6 +1,6 @@
 //! The owner of the block engine's state and buffers.
 
-use crate::raw::tau::{self, Answer, Lent, TauCanceller, NUMBERS};
+use crate::raw::tau::{self, reason, Answer, Lent, TauCanceller, NUMBERS};
 use crate::refusal::{accepted, Refusal};
 use std::fmt;
 
@@ -31,6 +31,8 @@ pub struct Report {
     pub double_talk: bool,
     /// What the last block of the call came to.
     pub outcome: Outcome,
+    /// Why the output filter did not move in that block, or that it moved.
+    pub reason: Reason,
 }
 
 /// What a block did with the two filters: the shadow, which learns, and the output filter, which it delivers through.
@@ -55,6 +57,93 @@ impl Outcome {
             2 => Outcome::Rescue,
             3 => Outcome::Move(leak),
             _ => unreachable!("the library has no outcome {number}"),
+        }
+    }
+}
+
+/// Why the output filter did not move in the call's last block: the first of these that holds, in this order. Where none does, it moved.
+///
+/// It prints itself in words. It is of the block's own test, on powers and a streak that the rest of the block may change, so it cannot be
+/// worked out from [`Tau::state`]. What to expect of each, and what to look at where it stays, is at
+/// [`raw::tau::reason`](crate::raw::tau::reason).
+#[derive(Clone, Copy, Debug, PartialEq)]
+pub enum Reason {
+    /// The call ran no block.
+    NoBlock,
+    /// The block is what a flush found waiting, from which no filter learns.
+    FlushBlock,
+    /// The output filter gave a sample that is not finite, and both filters were cleared.
+    OutputDiverged,
+    /// The loudspeaker is silent: far has at most 1e-4 of the energy of its loudest block since creation or reset.
+    FarNotActive,
+    /// The detector of double talk has learnt from fewer than 64 blocks: from those with far sound in which near is not all zeros.
+    NotEstablished,
+    /// The shadow filter, which had become worse, became a copy of the output filter.
+    Rescued,
+    /// Fewer than 6 blocks in a row were without double talk.
+    QuietStreakShort,
+    /// The output filter's smoothed error power is 0, or no number.
+    NoOutputPower,
+    /// The shadow's smoothed error power is not at least a tenth below the output filter's.
+    NoAdvantage,
+    /// The output filter moved towards the shadow by this share, the leak: above 0, at most 0.75.
+    Moved(f64),
+}
+
+impl Reason {
+    /// By the library's number for it, and the leak.
+    fn of(number: u32, leak: f64) -> Reason {
+        match number {
+            reason::NO_BLOCK => Reason::NoBlock,
+            reason::FLUSH_BLOCK => Reason::FlushBlock,
+            reason::OUTPUT_DIVERGED => Reason::OutputDiverged,
+            reason::FAR_NOT_ACTIVE => Reason::FarNotActive,
+            reason::NOT_ESTABLISHED => Reason::NotEstablished,
+            reason::RESCUED => Reason::Rescued,
+            reason::QUIET_STREAK_SHORT => Reason::QuietStreakShort,
+            reason::NO_OUTPUT_POWER => Reason::NoOutputPower,
+            reason::NO_ADVANTAGE => Reason::NoAdvantage,
+            reason::MOVED => Reason::Moved(leak),
+            _ => unreachable!("the library has no reason {number}"),
+        }
+    }
+
+    /// The library's number for it, as [`raw`](crate::raw) answers it: its place in the order, from 0 to 9.
+    #[must_use]
+    pub const fn number(self) -> u32 {
+        match self {
+            Reason::NoBlock => reason::NO_BLOCK,
+            Reason::FlushBlock => reason::FLUSH_BLOCK,
+            Reason::OutputDiverged => reason::OUTPUT_DIVERGED,
+            Reason::FarNotActive => reason::FAR_NOT_ACTIVE,
+            Reason::NotEstablished => reason::NOT_ESTABLISHED,
+            Reason::Rescued => reason::RESCUED,
+            Reason::QuietStreakShort => reason::QUIET_STREAK_SHORT,
+            Reason::NoOutputPower => reason::NO_OUTPUT_POWER,
+            Reason::NoAdvantage => reason::NO_ADVANTAGE,
+            Reason::Moved(_) => reason::MOVED,
+        }
+    }
+
+    /// What a block with this reason did. A report has no other outcome beside it.
+    #[must_use]
+    pub const fn outcome(self) -> Outcome {
+        match self {
+            Reason::NoBlock => Outcome::NotRun,
+            Reason::Rescued => Outcome::Rescue,
+            Reason::Moved(leak) => Outcome::Move(leak),
+            _ => Outcome::NoMove,
+        }
+    }
+}
+
+/// In words, as "quiet streak below 6"; of a move with its leak, as "moved, leak 0.75".
+impl fmt::Display for Reason {
+    fn fmt(&self, f: &mut fmt::Formatter<'_>) -> fmt::Result {
+        f.write_str(reason::words(self.number()))?;
+        match self {
+            Reason::Moved(leak) => write!(f, ", leak {leak}"),
+            _ => Ok(()),
         }
     }
 }
@@ -172,6 +261,7 @@ impl Tau {
             divergence_resets: answer.divergence_resets,
             double_talk: answer.double_talk,
             outcome: Outcome::of(answer.outcome, answer.leak),
+            reason: Reason::of(answer.reason, answer.leak),
         })
     }
 }

@@ -6,8 +6,9 @@ use crate::line::{lines, Line};
 use crate::recipe::{Recipe, Sounds};
 use crate::tau_lines::{fields, Recipe64};
 use crate::Owned;
-use aspeyruni::raw::tau::{self, Answer, Detector, Guard, Paths, Powers, Started, TauCanceller};
-use aspeyruni::{Outcome, Refusal, Report, Tau};
+use aspeyruni::raw::tau::{self, outcome, reason, Answer, Detector, Guard};
+use aspeyruni::raw::tau::{Paths, Powers, Started, TauCanceller};
+use aspeyruni::{Outcome, Reason, Refusal, Report, Tau};
 
 const LIST: &str = include_str!("../../../crates/tau_cases/stdin");
 
@@ -28,7 +29,7 @@ type Called = (Result<Option<Report>, Refusal>, u64);
 
 #[test]
 fn every_line_comes_to_its_answer() {
-    let lines = lines(LIST, 44);
+    let lines = lines(LIST, 47);
     let mut replay = Replay {
         state: *Tau::new(1, false).unwrap().state(),
         buffers: [0; 3].map(|_| vec![0.0; MOST_NUMBERS]),
@@ -168,7 +169,7 @@ impl Replay {
         }
     }
 
-    /// Fields 8 to 38 and 41 to 43.
+    /// Fields 8 to 38 and 41 to 46, and that the outcome is the one that the reason has.
     fn compare_raw(&mut self, line: &Line, answer: Answer, hash: u64) {
         self.state = answer.state;
         let buffers = parts(&mut self.buffers, line).map(|buffer| &*buffer);
@@ -178,6 +179,9 @@ impl Replay {
         let first = halves([answer.refusal as usize, answer.delivered]);
         let last = [first, answer.transfers, answer.divergence_resets];
         line.compare("raw", 41, &last);
+        line.compare("raw", 44, &because(answer.reason));
+        let outcome = outcome_of(answer.reason);
+        assert_eq!(answer.outcome, outcome, "line {}", line.number);
     }
 
     /// The same, but for the report of a refused call, which an owner does not give.
@@ -220,6 +224,7 @@ fn compare_report(line: &Line, report: Option<Report>) {
         divergence_resets: 0,
         double_talk: false,
         outcome: Outcome::NotRun,
+        reason: Reason::NoBlock,
     };
     let report = report.unwrap_or(nothing);
     let (outcome, leak) = match report.outcome {
@@ -233,6 +238,24 @@ fn compare_report(line: &Line, report: Option<Report>) {
     let delivered = halves([0, report.delivered]);
     let last = [delivered, report.transfers, report.divergence_resets];
     line.compare("its owner", 41, &last);
+    line.compare("its owner", 44, &because(report.reason.number()));
+    let outcome = report.reason.outcome();
+    assert_eq!(report.outcome, outcome, "line {}", line.number);
+}
+
+/// Fields 44 to 46: the reason in the high half of the first, and of the rest nothing has a use yet.
+fn because(reason: u32) -> [u64; 3] {
+    [halves([reason as usize, 0]), 0, 0]
+}
+
+/// By the numbers that the library has for both.
+fn outcome_of(reason: u32) -> u32 {
+    match reason {
+        reason::NO_BLOCK => outcome::NOT_RUN,
+        reason::RESCUED => outcome::RESCUE,
+        reason::MOVED => outcome::MOVE,
+        _ => outcome::NO_MOVE,
+    }
 }
 
 fn unreported(started: Started) -> Answer {
