@@ -8,7 +8,8 @@
  *
  * At the end of the input all that went in comes out: the whole pairs of an unfinished frame are processed too, Tau is flushed, and what
  * is in the queue is written. So the output is 224 zeros and then a sample for each pair. It is the same after a failed read, with what was
- * read. Where a read, a write or a call fails the host says so on standard error, and its status is 1. */
+ * read. Where a read, a write or a call fails the host says so on standard error, and its status is 1. At the end it writes there what
+ * support asks for where echo stays: in how many blocks the output filter moved, and in how many it did not for which reason. */
 #include "aspeyruni.h"
 #include <math.h>
 #include <stdio.h>
@@ -31,12 +32,28 @@ static double shadow[NUMBERS], output[NUMBERS], spectra[NUMBERS];
 static struct aspeyruni_tau_answer answer; /* of the last call, with the engine's state */
 static float queue[QUEUE];
 static size_t queued = SILENCE;
+static unsigned long blocks[ASPEYRUNI_REASON_MOVED + 1]; /* how many had each reason; the first counts calls that ran none */
 
 static bool is_accepted(uint32_t refusal)
 {
     if (refusal != ASPEYRUNI_ACCEPTED)
         fprintf(stderr, "frames: refusal %u\n", (unsigned)refusal);
     return refusal == ASPEYRUNI_ACCEPTED;
+}
+
+/* With at most 224 + 160 pairs at hand a call runs one block at most, so no block is left out of the count. */
+static bool note_answer(void)
+{
+    queued += answer.delivered;
+    blocks[answer.reason]++;
+    return is_accepted(answer.refusal);
+}
+
+static void tell(void)
+{
+    for (uint32_t reason = ASPEYRUNI_REASON_FLUSH_BLOCK; reason <= ASPEYRUNI_REASON_MOVED; reason++)
+        if (blocks[reason] > 0)
+            fprintf(stderr, "frames: %s: %lu\n", aspeyruni_reason_words(reason), blocks[reason]);
 }
 
 static float sample_of(const unsigned char *bytes)
@@ -77,15 +94,13 @@ static bool take(const unsigned char *bytes, size_t pairs)
     }
     aspeyruni_tau_process(&answer, answer.state, shadow, NUMBERS, output, NUMBERS, spectra, NUMBERS, near_end, pairs, far_end, pairs,
                           queue + queued, QUEUE - queued);
-    queued += answer.delivered;
-    return is_accepted(answer.refusal);
+    return note_answer();
 }
 
 static bool flush(void)
 {
     aspeyruni_tau_flush(&answer, answer.state, shadow, NUMBERS, output, NUMBERS, spectra, NUMBERS, queue + queued, QUEUE - queued);
-    queued += answer.delivered;
-    return is_accepted(answer.refusal);
+    return note_answer();
 }
 
 /* Writes the queue's first `count` samples and moves the rest, at most 224, to its start. */
@@ -124,6 +139,7 @@ int main(void)
     }
     if (!take(bytes, got / PAIR_BYTES) || !flush() || !give(queued))
         return 1;
+    tell();
     if (fclose(stdout) != 0) {
         perror("frames: a write failed");
         return 1;
