@@ -1,16 +1,16 @@
-//! Blocks at which one reading of the rules parts from another that is as likely, each the smallest that shows it. They stand at the end
-//! of the list, so that the lines before them keep their seeds.
+//! Blocks at which one reading of the rules parts from another that is as likely, each the smallest that shows it. They stand behind the
+//! others, so that the lines before them keep their seeds.
 
 use crate::aspeyruni::tau::*;
 use crate::inputs::{word_of, DIGITS, SIGN};
 use crate::kinds::*;
-use crate::recipe::{Recipe, Sounds};
+use crate::recipe::{sounds_of, Recipe, Sounds};
 use crate::tau_lines::*;
 use crate::tau_reference;
 use crate::{amid_rescue, block, target_is_gain, List};
 
 /// Where any word will do.
-const SOME: u64 = 77;
+pub const SOME: u64 = 77;
 
 pub fn all(list: &mut List) {
     edges_again(list);
@@ -29,24 +29,15 @@ pub fn all(list: &mut List) {
 
 impl List {
     /// An engine as after an echo that was learnt, but for a change.
-    fn learnt(&mut self, partitions: usize, change: impl Fn(&mut TauCanceller)) {
+    pub fn learnt(&mut self, partitions: usize, change: impl Fn(&mut TauCanceller)) {
         let mut state = established(partitions);
         change(&mut state);
         self.new_with(state);
     }
 
     /// One block from one word.
-    fn block_of(&mut self, word: u64, near: Kind, far: Kind, gain: f32) {
+    pub fn block_of(&mut self, word: u64, near: Kind, far: Kind, gain: f32) {
         self.run('b', sounds_of(word, near, far, gain), BLOCK, 1);
-    }
-}
-
-/// Near from this word, and far from one that lies apart from it on the ring.
-fn sounds_of(word: u64, near: Kind, far: Kind, gain: f32) -> Sounds {
-    Sounds {
-        near: Recipe::noise(word, near),
-        far: Recipe::noise(word ^ 0x5555_5555, far),
-        gain,
     }
 }
 

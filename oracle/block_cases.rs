@@ -3,6 +3,7 @@
 
 mod aspeyruni;
 mod block_borders;
+mod block_reasons;
 mod branches;
 #[allow(dead_code)] // the Rust's text, whole
 mod canceller;
@@ -23,23 +24,23 @@ mod tau_reference;
 
 use aspeyruni::tau::*;
 use branches::Counts;
-use inputs::{bits, hash32, line, Random};
+use inputs::{bits, halves, hash32, line, Random};
 use kinds::*;
 use recipe::Sounds;
-use tau_calls::Outcome;
+use tau_calls::Reason;
 use tau_lines::*;
 use tau_reference::{Seen, MOST_PARTITIONS};
 
 /// What a line comes to but for the state and the buffers.
 struct Got {
-    outcome: Outcome,
+    reason: Reason,
     block: [f32; BLOCK],
 }
 
 impl Got {
     fn nothing() -> Got {
         Got {
-            outcome: Outcome::NotRun,
+            reason: Reason::NoBlock,
             block: [0.0; BLOCK],
         }
     }
@@ -53,6 +54,7 @@ struct List {
     shadow: Vec<f64>,
     output: Vec<f64>,
     spectra: Vec<f64>,
+    reason: Reason,
     counts: Counts,
 }
 
@@ -67,12 +69,19 @@ impl List {
 
     /// A line, by its fields 0 to 7 and what it comes to.
     fn line(&mut self, letter: char, given: [u64; 8], got: Got) {
-        let (outcome, leak) = (got.outcome.number(), got.outcome.leak());
-        let answered = [outcome.into(), bits(leak), hash32(&got.block)];
+        self.reason = got.reason;
+        let outcome = got.reason.outcome();
+        let answered = [
+            outcome.number().into(),
+            bits(outcome.leak()),
+            hash32(&got.block),
+        ];
         let n = self.lent();
         let buffers = [&self.shadow, &self.output, &self.spectra];
         let kept = tau_lines::fields(&self.state, buffers.map(|buffer| &buffer[..n]));
-        let fields = given.iter().chain(&answered).chain(&kept);
+        // the other half and the last field are kept for requests K8 and K10
+        let last = [halves([got.reason.number() as usize, 0]), 0];
+        let fields = given.iter().chain(&answered).chain(&kept).chain(&last);
         self.text += &line(letter, fields);
     }
 
@@ -150,7 +159,7 @@ impl List {
             });
             self.state = answer.state;
             got = Got {
-                outcome: answer.outcome,
+                reason: answer.reason,
                 block: answer.block,
             };
         }
@@ -196,6 +205,7 @@ fn main() {
         shadow: buffer.clone(),
         output: buffer.clone(),
         spectra: buffer,
+        reason: Reason::NoBlock,
         counts: Counts::none(),
     };
     silence(&mut list);
@@ -212,6 +222,7 @@ fn main() {
     numbers(&mut list);
     samples(&mut list);
     block_borders::all(&mut list);
+    block_reasons::all(&mut list);
     list.counts.tell_all_taken();
     print!("{}", list.text);
 }

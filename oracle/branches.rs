@@ -4,11 +4,11 @@
 
 use crate::aspeyruni::tau::TauCanceller;
 use crate::taken::Taken;
-use crate::tau_calls::Outcome;
+use crate::tau_calls::{Outcome, Reason, REASONS};
 use crate::tau_reference::Seen;
 
 /// All that a list has to reach, in the order of the block's steps.
-const ALL: [&str; 56] = [
+const ALL: [&str; 62] = [
     "1 partition",
     "2 partitions",
     "4 partitions",
@@ -17,11 +17,13 @@ const ALL: [&str; 56] = [
     "far silent, before any sound",
     "far silent, after sound",
     "far faint, not active",
+    "far not active, not established",
     "far active, not established",
     "established",
     "count held at 64",
     "shadow diverged in step 2",
     "output diverged",
+    "output diverged, far not active",
     "both diverged in steps 2 and 3",
     "c is 0",
     "c is between",
@@ -43,7 +45,9 @@ const ALL: [&str; 56] = [
     "compared, muted",
     "rescue streak broken",
     "rescue",
+    "rescue, quiet streak below 6",
     "quiet streak below 6",
+    "quiet streak below 6, no output power",
     "move, leak below 0.75",
     "move, leak 0.75",
     "quiet, without a move",
@@ -57,11 +61,13 @@ const ALL: [&str; 56] = [
     "target 0.1",
     "guard",
     "guard, the output moved",
+    "guard, the output compared and not moved",
     "two resets",
     "flush, before any sound",
     "flush, with sound",
     "flush, after a divergence",
     "flush, diverging",
+    "flush, the output diverging",
     "quiet streak held",
     "transfers held",
     "resets held",
@@ -71,7 +77,7 @@ const ALL: [&str; 56] = [
 struct Ran<'a> {
     before: &'a TauCanceller,
     after: &'a TauCanceller,
-    outcome: Outcome,
+    reason: Reason,
     taken: Taken,
     far: &'a [f32],
     flushes: bool,
@@ -102,11 +108,13 @@ impl Ran<'_> {
             "far silent, before any sound" => !sounded,
             "far silent, after sound" => silent && sounded,
             "far faint, not active" => !silent && !active,
+            "far not active, not established" => !active && d.dtd_blocks < 64,
             "far active, not established" => active && !established,
             "established" => established,
             "count held at 64" => active && before.detector.dtd_blocks == 64,
             "shadow diverged in step 2" => t.shadow_diverged,
             "output diverged" => t.diverged,
+            "output diverged, far not active" => t.diverged && !active,
             "both diverged in steps 2 and 3" => t.shadow_diverged && t.diverged,
             "c is 0" => t.likeness == Some(0.0),
             "c is between" => t.likeness.is_some_and(|c| 0.0 < c && c < 1.0),
@@ -132,12 +140,16 @@ impl Ran<'_> {
                     && before.paths.rescue_streak > 0
                     && paths.rescue_streak == 0
             }
-            "rescue" => self.outcome == Outcome::Rescue,
+            "rescue" => t.rescued,
+            "rescue, quiet streak below 6" => t.rescued && paths.quiet_streak < 6,
             "quiet streak below 6" => t.compared && (1..6).contains(&paths.quiet_streak),
+            "quiet streak below 6, no output power" => {
+                self.reason == Reason::QuietStreakShort && !(paths.output_error_power > 0.0)
+            }
             "move, leak below 0.75" => t.leak.is_some_and(|leak| leak < 0.75),
             "move, leak 0.75" => t.leak == Some(0.75),
             "quiet, without a move" => {
-                t.compared && paths.quiet_streak >= 6 && self.outcome == Outcome::NoMove
+                t.compared && paths.quiet_streak >= 6 && self.reason.outcome() == Outcome::NoMove
             }
             "step factor 0.02" => t.least_step,
             "shadow diverged in the update" => t.update_diverged,
@@ -149,6 +161,9 @@ impl Ran<'_> {
             "target 0.1" => t.least_gain,
             "guard" => t.guarded,
             "guard, the output moved" => t.guarded && t.leak.is_some(),
+            "guard, the output compared and not moved" => {
+                t.guarded && t.compared && t.leak.is_none()
+            }
             "two resets" => {
                 [t.shadow_diverged, t.update_diverged, t.diverged, t.guarded]
                     .map(u32::from)
@@ -160,6 +175,7 @@ impl Ran<'_> {
             "flush, with sound" => self.flushes && active,
             "flush, after a divergence" => self.flushes && self.after_divergence,
             "flush, diverging" => self.flushes && self.diverged(),
+            "flush, the output diverging" => self.flushes && t.diverged,
             "quiet streak held" => {
                 t.compared
                     && before.paths.quiet_streak == u32::MAX
@@ -175,12 +191,15 @@ impl Ran<'_> {
 struct Branches {
     /// From creation, and where a line before set a part of the state.
     counts: [[u32; 2]; ALL.len()],
+    /// The same of the reasons, by their numbers. No block has the first.
+    reasons: [[u32; 2]; REASONS.len()],
 }
 
 impl Branches {
     fn none() -> Branches {
         Branches {
             counts: [[0; 2]; ALL.len()],
+            reasons: [[0; 2]; REASONS.len()],
         }
     }
 
@@ -188,6 +207,7 @@ impl Branches {
         for (branch, count) in ALL.iter().zip(&mut self.counts) {
             count[usize::from(is_foreign)] += u32::from(ran.took(branch));
         }
+        self.reasons[ran.reason.number() as usize][usize::from(is_foreign)] += 1;
     }
 
     /// To standard error.
@@ -196,12 +216,20 @@ impl Branches {
         for (branch, [own, foreign]) in ALL.iter().zip(self.counts) {
             eprintln!("{branch:40} {own:>9} {foreign:>9}");
         }
+        for (number, [own, foreign]) in self.reasons.iter().enumerate().skip(1) {
+            let name = format!("reason {number}, {}", REASONS[number]);
+            eprintln!("{name:40} {own:>9} {foreign:>9}");
+        }
     }
 
+    /// A reason has to come from creation and from a foreign state, since every one can.
     fn not_taken(&self) -> Vec<&'static str> {
         let all = ALL.iter().zip(self.counts);
-        all.filter(|(_, count)| *count == [0, 0])
-            .map(|(branch, _)| *branch)
+        let branches = all.filter(|(_, count)| *count == [0, 0]);
+        let reasons = REASONS.iter().zip(self.reasons).skip(1);
+        branches
+            .chain(reasons.filter(|(_, count)| count.contains(&0)))
+            .map(|(name, _)| *name)
             .collect()
     }
 }
@@ -229,7 +257,7 @@ impl Counts {
         let ran = Ran {
             before: seen.before,
             after: &seen.blocked.state,
-            outcome: seen.blocked.outcome,
+            reason: seen.blocked.reason,
             taken: seen.taken,
             far: seen.far,
             flushes: seen.flushes,

@@ -103,3 +103,12 @@ impl Sounds {
         [near, far]
     }
 }
+
+/// Near from this word, and far from one that lies apart from it on the ring.
+pub fn sounds_of(word: u64, near: Kind, far: Kind, gain: f32) -> Sounds {
+    Sounds {
+        near: Recipe::noise(word, near),
+        far: Recipe::noise(word ^ 0x5555_5555, far),
+        gain,
+    }
+}

@@ -2,6 +2,18 @@
 
 #![allow(dead_code)] // a driver uses a part
 
+/// What the comparison of the two filters asks before it moves the output, in the order of the Rust's text.
+#[derive(Clone, Copy, Debug, PartialEq)]
+pub enum Test {
+    Adapts,
+    OutputHolds,
+    FarIsActive,
+    IsEstablished,
+    IsQuietForLong,
+    HasOutputPower,
+    HasAdvantage,
+}
+
 #[derive(Clone, Copy, Debug, Default)]
 pub struct Taken {
     /// The shadow in step 2 and in the update, and the output.
@@ -18,6 +30,8 @@ pub struct Taken {
     pub compared: bool,
     pub rescued: bool,
     pub leak: Option<f64>,
+    /// The test that stopped it.
+    pub failed: Option<Test>,
     /// A bin's step factor at 0.02.
     pub least_step: bool,
     pub suppressed: bool,
@@ -29,6 +43,14 @@ pub struct Taken {
 }
 
 impl Taken {
+    /// Whether a test of the Rust passes, as it came out there.
+    pub fn passes(&mut self, test: Test, passes: bool) -> bool {
+        if !passes {
+            self.failed = Some(test);
+        }
+        passes
+    }
+
     pub fn gained(&mut self, is_rising: bool, is_least: bool) {
         self.rising |= is_rising;
         self.falling |= !is_rising;

@@ -38,6 +38,10 @@ impl Tally {
         self.differ += u64::from(!is_same);
     }
 
+    pub fn compared(&self) -> u64 {
+        self.compared
+    }
+
     pub fn tell(&self, name: &str) {
         let nan = self.nan;
         self.tell_of(name, "numbers", &format!(", {nan} of them NaN"));

@@ -6,6 +6,8 @@
 //! length, and between calls now and then a flush, a reset, a call that is to be refused, and a state that no call left, which is called
 //! foreign. From there on the episode counts as foreign.
 //!
+//! A call reports the reason of its last block alone (request K2). So there are streams besides in which nearly every call runs one block.
+//!
 //! To standard error goes a table of the branches that the blocks took.
 
 mod aspeyruni;
@@ -32,6 +34,7 @@ use branches::Counts;
 use inputs::{bits, bits32, Noise, Random};
 use kinds::*;
 use tally::Tally;
+use tau_calls::REASONS;
 use tau_lines::*;
 use tau_reference::{Continued, Seen, MOST_PAIRS, MOST_PARTITIONS};
 
@@ -45,6 +48,12 @@ const STREAMS: [(usize, u32); 7] = [
     (13, 1_500),
     (32, 1_000),
 ];
+
+/// The same of streams in calls of one block.
+const STREAMS_BY_BLOCKS: [(usize, u32); 2] = [(1, 30_000), (2, 30_000)];
+
+/// So many blocks, at least, have their reasons compared, each reported by a call of its own.
+const REASONS_COMPARED: u64 = 100_000;
 
 /// So many creations besides, most of them refused.
 const CREATIONS: usize = 3_000;
@@ -189,6 +198,7 @@ fn numbers(answer: &Answer) -> Vec<u64> {
         answer.divergence_resets,
         answer.double_talk.into(),
         answer.outcome.into(),
+        answer.reason.into(),
         bits(answer.leak),
         s.partitions as u64,
         s.carried as u64,
@@ -229,6 +239,7 @@ struct Tallies {
     reset: Tally,
     answers: [Tally; 7],
     outcomes: [Tally; 4],
+    reasons: [Tally; REASONS.len()],
     samples: [Tally; STREAMS.len()],
     beyond: Tally,
     buffers: [Tally; 3],
@@ -250,6 +261,7 @@ impl Tallies {
         for (name, tally) in outcomes.iter().zip(&self.outcomes) {
             tally.tell_calls(&format!("tau report, {name}"));
         }
+        self.tell_reasons();
         for ((partitions, _), tally) in STREAMS.iter().zip(&self.samples) {
             tally.tell(&format!("tau samples, P = {partitions}"));
         }
@@ -260,6 +272,17 @@ impl Tallies {
         }
         self.own
             .tell_calls("tau reference, against the Rust's own calls");
+    }
+
+    /// Each reason has a line, so that one which never came fails.
+    fn tell_reasons(&self) {
+        for (number, (name, tally)) in REASONS.iter().zip(&self.reasons).enumerate() {
+            tally.tell_calls(&format!("tau reason {number}, {name}"));
+        }
+        let of_blocks = self.reasons[1..].iter().map(Tally::compared).sum::<u64>();
+        if of_blocks < REASONS_COMPARED {
+            println!("tau reasons: of {of_blocks} blocks alone, not of {REASONS_COMPARED}");
+        }
     }
 }
 
@@ -273,6 +296,8 @@ struct Both {
     own: Continued,
     partitions: usize,
     suppress: bool,
+    /// Whether sound comes in calls of one block, and not of any length.
+    is_by_blocks: bool,
 }
 
 fn main() {
@@ -290,15 +315,14 @@ fn main() {
         own: Continued::created(1, false),
         partitions: 1,
         suppress: false,
+        is_by_blocks: false,
     };
     for _ in 0..CREATIONS {
         both.creation();
     }
-    for (partitions, blocks) in STREAMS {
-        for suppress in [true, false] {
-            both.stream(partitions, suppress, blocks);
-        }
-    }
+    both.streams(&STREAMS);
+    both.is_by_blocks = true;
+    both.streams(&STREAMS_BY_BLOCKS);
     both.tallies.tell();
     both.counts.tell();
     eprintln!("{} blocks", both.counts.blocks());
@@ -361,6 +385,15 @@ impl Both {
         lent
     }
 
+    /// With suppression and without.
+    fn streams(&mut self, streams: &[(usize, u32)]) {
+        for (partitions, blocks) in streams {
+            for suppress in [true, false] {
+                self.stream(*partitions, suppress, *blocks);
+            }
+        }
+    }
+
     /// Episodes, until there are so many blocks more.
     fn stream(&mut self, partitions: usize, suppress: bool, blocks: u32) {
         self.suppress = suppress;
@@ -368,36 +401,56 @@ impl Both {
         let end = self.counts.blocks() + blocks;
         while self.counts.blocks() < end {
             self.call(&Call::Create(partitions, suppress), self.rightly_lent());
-            match self.random.below(9) {
-                0 => self.silence(),
-                1 => self.spoilt(),
-                2 => self.foreign(),
-                3 => self.overflow(),
-                4 => self.muted(),
-                _ => {
-                    let blocks = 66 + self.random.below(30);
+            if self.is_by_blocks && self.random.below(8) == 0 {
+                self.powerless();
+            } else {
+                self.begin();
+            }
+            for _ in 0..self.random.below(6) {
+                self.go_on();
+            }
+        }
+    }
+
+    fn begin(&mut self) {
+        match self.random.below(9) {
+            0 => self.silence(),
+            1 => self.spoilt(),
+            2 => self.foreign(),
+            3 => self.overflow(),
+            4 => self.muted(),
+            _ => {
+                let blocks = 66 + self.random.below(30);
+                let echo = self.random.one_of(&ECHOES);
+                self.hear(echo, blocks);
+            }
+        }
+    }
+
+    fn go_on(&mut self) {
+        let scene = self.random.one_of(&SCENES);
+        let blocks = 1 + self.random.below(12);
+        self.hear(scene, blocks);
+        match self.random.below(16) {
+            0 => self.call(&Call::Reset, self.rightly_lent()),
+            1..4 => {
+                for _ in 0..1 + self.random.below(4) {
+                    self.foreign();
                     let echo = self.random.one_of(&ECHOES);
+                    let blocks = 1 + self.random.below(4);
                     self.hear(echo, blocks);
                 }
             }
-            for _ in 0..self.random.below(6) {
-                let scene = self.random.one_of(&SCENES);
-                let blocks = 1 + self.random.below(12);
-                self.hear(scene, blocks);
-                match self.random.below(16) {
-                    0 => self.call(&Call::Reset, self.rightly_lent()),
-                    1..4 => {
-                        for _ in 0..1 + self.random.below(4) {
-                            self.foreign();
-                            let echo = self.random.one_of(&ECHOES);
-                            let blocks = 1 + self.random.below(4);
-                            self.hear(echo, blocks);
-                        }
-                    }
-                    _ => {}
-                }
-            }
+            _ => {}
         }
+    }
+
+    /// An echo as large as samples get; the far end louder while near is muted, so that both filters diverge; and near muted on, so that
+    /// the output's power stays 0.
+    fn powerless(&mut self) {
+        self.hear(scene(SILENCE, FULL, 1.6e38), 84);
+        self.plain(scene(SILENCE, LOUD, 0.0), BLOCK);
+        self.hear(scene(SILENCE, FULL, 0.0), 4);
     }
 
     /// Joining muted, for longer than would establish the detector, and the echo after it.
@@ -432,21 +485,22 @@ impl Both {
         self.plain(scene(LOW, SOUND, 0.5), 2 * BLOCK);
     }
 
-    /// So many pairs, in one call.
+    /// So many pairs, in one call or in one for each block.
     fn plain(&mut self, scene: Scene, count: usize) {
-        let call = self.pairs(scene, count);
-        self.call(&call, self.rightly_lent());
+        let most = if self.is_by_blocks { BLOCK } else { count };
+        let mut left = count;
+        while left > 0 {
+            let call = self.pairs(scene, left.min(most));
+            self.call(&call, self.rightly_lent());
+            left -= left.min(most);
+        }
     }
 
-    /// So many blocks of pairs, in calls of any length, with other calls between.
+    /// So many blocks of pairs in calls, with other calls between.
     fn hear(&mut self, scene: Scene, blocks: usize) {
         let mut left = blocks * BLOCK;
         while left > 0 {
-            let most = self
-                .random
-                .one_of(&[1, 256, 600, 2_000, MOST_PAIRS, MOST_PAIRS]);
-            let any = self.random.below(most + 1);
-            let count = self.random.one_of(&[any, any, most, 255]).min(left);
+            let count = self.cut().min(left);
             let call = self.pairs(scene, count);
             self.call(&call, self.rightly_lent());
             left -= count;
@@ -460,6 +514,18 @@ impl Both {
                 _ => {}
             }
         }
+    }
+
+    /// How many pairs a call has.
+    fn cut(&mut self) -> usize {
+        if self.is_by_blocks {
+            return BLOCK;
+        }
+        let most = self
+            .random
+            .one_of(&[1, 256, 600, 2_000, MOST_PAIRS, MOST_PAIRS]);
+        let any = self.random.below(most + 1);
+        self.random.one_of(&[any, any, most, 255])
     }
 
     /// Of these, one call in eight has samples that are not finite strewn in.
@@ -637,6 +703,8 @@ impl Both {
         tallies.answers[rust.refusal as usize].call(is_same);
         if let Call::Process(..) | Call::Flush = call {
             tallies.outcomes[rust.outcome as usize].call(is_same);
+            let is_same = (port.reason, bits(port.leak)) == (rust.reason, bits(rust.leak));
+            tallies.reasons[rust.reason as usize].call(is_same);
         }
         let (port, rust_side) = (&self.port, &self.rust);
         let (heard, wanted) = (&port.out, &rust_side.out);
@@ -666,9 +734,8 @@ impl Both {
                 Vec::new()
             }
         };
-        let report = (rust.transfers, rust.divergence_resets, rust.double_talk);
         let is_reported = match call {
-            Call::Process(..) | Call::Flush => report == self.own.report(),
+            Call::Process(..) | Call::Flush => self.own.reports(rust),
             _ => true,
         };
         let n = NUMBERS * rust.state.partitions;

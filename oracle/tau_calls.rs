@@ -3,6 +3,7 @@
 #![allow(dead_code)] // a driver uses a part
 
 use crate::aspeyruni::tau::{Answer, Started, TauCanceller, BLOCK};
+use crate::taken::{Taken, Test};
 
 #[derive(Clone, Copy, Debug, PartialEq)]
 pub enum Outcome {
@@ -12,11 +13,103 @@ pub enum Outcome {
     Move(f64),
 }
 
+/// Why the output filter stood still: the first of these that holds, and the move with its leak where none does (request K2).
+#[derive(Clone, Copy, Debug, PartialEq)]
+pub enum Reason {
+    NoBlock,
+    FlushBlock,
+    OutputDiverged,
+    FarNotActive,
+    NotEstablished,
+    Rescued,
+    QuietStreakShort,
+    NoOutputPower,
+    NoAdvantage,
+    Moved(f64),
+}
+
+/// Their numbers, as the host library has them.
+pub mod reason {
+    pub const NO_BLOCK: u32 = 0;
+    pub const FLUSH_BLOCK: u32 = 1;
+    pub const OUTPUT_DIVERGED: u32 = 2;
+    pub const FAR_NOT_ACTIVE: u32 = 3;
+    pub const NOT_ESTABLISHED: u32 = 4;
+    pub const RESCUED: u32 = 5;
+    pub const QUIET_STREAK_SHORT: u32 = 6;
+    pub const NO_OUTPUT_POWER: u32 = 7;
+    pub const NO_ADVANTAGE: u32 = 8;
+    pub const MOVED: u32 = 9;
+}
+
+/// By their numbers.
+pub const REASONS: [&str; 10] = [
+    "no block run",
+    "flush block",
+    "output diverged",
+    "far not active",
+    "not established",
+    "rescued",
+    "quiet streak short",
+    "no output power",
+    "no advantage",
+    "moved",
+];
+
 #[derive(Clone, Copy, Debug)]
 pub struct Blocked {
     pub state: TauCanceller,
     pub block: [f32; BLOCK],
-    pub outcome: Outcome,
+    pub reason: Reason,
+}
+
+impl Reason {
+    /// From the branch that the Rust's block took, not from what it left. Where it took none there was no block.
+    pub fn of(taken: &Taken) -> Reason {
+        match (taken.failed, taken.rescued, taken.leak) {
+            (None, false, None) => Reason::NoBlock,
+            (Some(test), false, None) => Reason::failing(test),
+            (None, true, None) => Reason::Rescued,
+            (None, false, Some(leak)) => Reason::Moved(leak),
+            branches => panic!("a block of the Rust took several branches: {branches:?}"),
+        }
+    }
+
+    fn failing(test: Test) -> Reason {
+        match test {
+            Test::Adapts => Reason::FlushBlock,
+            Test::OutputHolds => Reason::OutputDiverged,
+            Test::FarIsActive => Reason::FarNotActive,
+            Test::IsEstablished => Reason::NotEstablished,
+            Test::IsQuietForLong => Reason::QuietStreakShort,
+            Test::HasOutputPower => Reason::NoOutputPower,
+            Test::HasAdvantage => Reason::NoAdvantage,
+        }
+    }
+
+    pub fn number(self) -> u32 {
+        match self {
+            Reason::NoBlock => reason::NO_BLOCK,
+            Reason::FlushBlock => reason::FLUSH_BLOCK,
+            Reason::OutputDiverged => reason::OUTPUT_DIVERGED,
+            Reason::FarNotActive => reason::FAR_NOT_ACTIVE,
+            Reason::NotEstablished => reason::NOT_ESTABLISHED,
+            Reason::Rescued => reason::RESCUED,
+            Reason::QuietStreakShort => reason::QUIET_STREAK_SHORT,
+            Reason::NoOutputPower => reason::NO_OUTPUT_POWER,
+            Reason::NoAdvantage => reason::NO_ADVANTAGE,
+            Reason::Moved(_) => reason::MOVED,
+        }
+    }
+
+    pub fn outcome(self) -> Outcome {
+        match self {
+            Reason::NoBlock => Outcome::NotRun,
+            Reason::Rescued => Outcome::Rescue,
+            Reason::Moved(leak) => Outcome::Move(leak),
+            _ => Outcome::NoMove,
+        }
+    }
 }
 
 /// By the numbers that the host library has for them.
@@ -49,6 +142,7 @@ impl Started {
             divergence_resets: 0,
             double_talk: false,
             outcome: 0,
+            reason: 0,
             leak: 0.0,
         }
     }

@@ -20,6 +20,7 @@ mod rust_tau;
 mod taken;
 mod tau_calls;
 mod tau_lines;
+mod tau_reasons;
 mod tau_reference;
 
 use aspeyruni::tau::*;
@@ -28,6 +29,7 @@ use branches::Counts;
 use inputs::{bits, halves, hash32, line, turned, Random};
 use kinds::*;
 use recipe::{Recipe, Sounds};
+use tau_calls::REASONS;
 use tau_lines::*;
 use tau_reference::Continued;
 
@@ -48,6 +50,9 @@ struct List {
     /// How many calls there are of each letter, and how many answers.
     calls: [usize; 4],
     answers: [usize; 7],
+    /// How many answers of process and flush there are by their reason, from creation and from a state that a line set, and the last.
+    reasons: [[usize; 2]; REASONS.len()],
+    reason: u32,
 }
 
 /// Those of the calls after so many pairs, which go on where the noise is.
@@ -93,12 +98,25 @@ impl List {
             halves([answer.refusal as usize, answer.delivered]),
             answer.transfers,
             answer.divergence_resets,
+            // the other half and the last two are kept for requests K8 and K10
+            halves([answer.reason as usize, 0]),
+            0,
+            0,
         ];
         let fields = given.iter().chain(&first).chain(&kept).chain(&last);
         self.text += &line(letter, fields);
+        self.count(letter, &answer);
+    }
+
+    fn count(&mut self, letter: char, answer: &Answer) {
+        self.reason = answer.reason;
         if let Some(call) = "cpfr".find(letter) {
             self.calls[call] += 1;
             self.answers[answer.refusal as usize] += 1;
+        }
+        if "pf".contains(letter) {
+            let foreign = usize::from(self.counts.is_foreign);
+            self.reasons[answer.reason as usize][foreign] += 1;
         }
     }
 
@@ -163,12 +181,7 @@ impl List {
     fn agree(&self, answer: Answer, out: &[f32], samples: &[f32]) {
         assert_eq!(answer.delivered, samples.len());
         assert_eq!(hash32(&out[..samples.len()]), hash32(samples));
-        let report = (
-            answer.transfers,
-            answer.divergence_resets,
-            answer.double_talk,
-        );
-        assert_eq!(report, self.continued.report());
+        assert!(self.continued.reports(&answer));
         self.check();
     }
 
@@ -262,6 +275,18 @@ impl List {
         self.make_with(array, kind, u64::MAX, 0);
     }
 
+    /// To standard error, with an end where a branch or a reason has no case.
+    fn tell(&self) {
+        self.counts.tell_all_taken();
+        let [c, p, f, r] = self.calls;
+        eprintln!("{c} calls of create, {p} of process, {f} of flush, {r} of reset");
+        eprintln!("answers 0 to 6: {:?}", self.answers);
+        eprintln!("reasons 0 to 9, own and foreign: {:?}", self.reasons);
+        assert!(self.reasons.iter().flatten().all(|count| *count > 0));
+        let (blocks, bytes) = (self.counts.blocks(), self.text.len());
+        eprintln!("{blocks} blocks, {bytes} bytes");
+    }
+
     /// Created, and all but the arrays as after an echo that was learnt.
     fn established(&mut self, partitions: usize, suppress: bool) {
         self.create(partitions, suppress);
@@ -281,9 +306,17 @@ fn main() {
         counts: Counts::none(),
         calls: [0; 4],
         answers: [0; 7],
+        reasons: [[0; 2]; REASONS.len()],
+        reason: 0,
     };
-    settings(&mut list);
-    lengths(&mut list);
+    all(&mut list);
+    list.tell();
+    print!("{}", list.text);
+}
+
+fn all(list: &mut List) {
+    settings(list);
+    lengths(list);
     for (partitions, suppress) in [
         (1, true),
         (2, false),
@@ -292,7 +325,7 @@ fn main() {
         (8, false),
         (13, true),
     ] {
-        stream(&mut list, partitions, suppress);
+        stream(list, partitions, suppress);
     }
     for (partitions, suppress) in [
         (1, false),
@@ -304,26 +337,21 @@ fn main() {
         (32, true),
         (32, false),
     ] {
-        late(&mut list, partitions, suppress);
+        late(list, partitions, suppress);
     }
-    same_cuts(&mut list);
-    samples(&mut list);
-    carries(&mut list);
-    counters(&mut list);
-    outcomes(&mut list);
-    foreign(&mut list);
-    refused_states(&mut list);
-    refused_lengths(&mut list);
+    same_cuts(list);
+    samples(list);
+    carries(list);
+    counters(list);
+    outcomes(list);
+    foreign(list);
+    refused_states(list);
+    refused_lengths(list);
     // these came later: at the end, so that the lines before them keep their seeds
-    reset_streaks(&mut list);
-    refused_without_pairs(&mut list);
-    muted(&mut list);
-    list.counts.tell_all_taken();
-    let [c, p, f, r] = list.calls;
-    eprintln!("{c} calls of create, {p} of process, {f} of flush, {r} of reset");
-    eprintln!("answers 0 to 6: {:?}", list.answers);
-    eprintln!("{} blocks, {} bytes", list.counts.blocks(), list.text.len());
-    print!("{}", list.text);
+    reset_streaks(list);
+    refused_without_pairs(list);
+    muted(list);
+    tau_reasons::all(list);
 }
 
 /// Creations over buffers that hold something, refused and not, and calls on the state that a refused one gives.

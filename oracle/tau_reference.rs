@@ -11,7 +11,7 @@ use crate::config::Suppression;
 use crate::fft::Complex;
 use crate::rust_tau::TauCanceller as Engine;
 use crate::taken::Taken;
-use crate::tau_calls::{Blocked, Outcome};
+use crate::tau_calls::{Blocked, Reason};
 use crate::tau_lines::fields;
 
 pub const MOST_PARTITIONS: usize = 32;
@@ -63,10 +63,10 @@ pub fn process(
         refusal => refusal,
     };
     if refusal != 0 {
-        return answered(refusal, 0, state, Outcome::NotRun);
+        return answered(refusal, 0, state, Reason::NoBlock);
     }
     let mut state = *state;
-    let mut last = Outcome::NotRun;
+    let mut last = Reason::NoBlock;
     let mut delivered = 0;
     for (x, y) in near.iter().zip(far) {
         state.near_carry[state.carried] = finite_or_zero(*x);
@@ -78,7 +78,7 @@ pub fn process(
             let blocked = watched(&state, [&near, &far], BLOCK, false, &mut lent, watch);
             out[delivered..][..BLOCK].copy_from_slice(&blocked.block);
             delivered += BLOCK;
-            (state, last) = (blocked.state, blocked.outcome);
+            (state, last) = (blocked.state, blocked.reason);
         }
     }
     answered(0, delivered, &state, last)
@@ -92,7 +92,7 @@ pub fn flush(state: &TauCanceller, mut lent: Lent, out: &mut [f32], watch: Watch
         refusal => refusal,
     };
     if refusal != 0 || carried == 0 {
-        return answered(refusal, 0, state, Outcome::NotRun);
+        return answered(refusal, 0, state, Reason::NoBlock);
     }
     let mut state = *state;
     state.carried = 0;
@@ -101,7 +101,7 @@ pub fn flush(state: &TauCanceller, mut lent: Lent, out: &mut [f32], watch: Watch
     far[carried..].fill(0.0);
     let blocked = watched(&state, [&near, &far], carried, true, &mut lent, watch);
     out[..carried].copy_from_slice(&blocked.block[..carried]);
-    answered(0, carried, &blocked.state, blocked.outcome)
+    answered(0, carried, &blocked.state, blocked.reason)
 }
 
 /// Refusals 6, 2. The carry is empty and all of it 0.0, as creation leaves it.
@@ -186,8 +186,9 @@ fn watched(
     blocked
 }
 
-/// The report is of the last block, and but for its outcome it is what the state says.
-fn answered(refusal: u32, delivered: usize, state: &TauCanceller, last: Outcome) -> Answer {
+/// The report is of the last block, and but for its reason, with the outcome, it is what the state says.
+fn answered(refusal: u32, delivered: usize, state: &TauCanceller, last: Reason) -> Answer {
+    let outcome = last.outcome();
     Answer {
         refusal,
         delivered,
@@ -195,8 +196,9 @@ fn answered(refusal: u32, delivered: usize, state: &TauCanceller, last: Outcome)
         transfers: state.mic.transfers,
         divergence_resets: state.mic.divergence_resets,
         double_talk: state.mic.detector.double_talk,
-        outcome: last.number(),
-        leak: last.leak(),
+        outcome: outcome.number(),
+        reason: last.number(),
+        leak: outcome.leak(),
     }
 }
 
@@ -220,12 +222,14 @@ impl Continued {
     /// The samples delivered.
     pub fn process(&mut self, near: &[f32], far: &[f32]) -> Vec<f32> {
         let mut samples = Vec::new();
+        self.0.taken = Taken::default();
         let Ok(()) = self.0.process(near, far, &mut samples);
         samples
     }
 
     pub fn flush(&mut self) -> Vec<f32> {
         let mut samples = Vec::new();
+        self.0.taken = Taken::default();
         let Ok(()) = self.0.flush(&mut samples);
         samples
     }
@@ -242,6 +246,13 @@ impl Continued {
             metrics.divergence_resets,
             metrics.double_talk,
         )
+    }
+
+    /// Whether an answer reports the same, with the reason of the last block that the last call ran.
+    pub fn reports(&self, a: &Answer) -> bool {
+        let reason = Reason::of(&self.0.taken);
+        (a.transfers, a.divergence_resets, a.double_talk) == self.report()
+            && (a.reason, a.leak) == (reason.number(), reason.outcome().leak())
     }
 
     /// The state. Of the carry it keeps what waits alone: the rest is as in the state that it is held against.
@@ -287,17 +298,12 @@ pub fn run_block(
     load(&mut engine, &lent);
     engine.run_block(near, far, valid, adapt);
     keep_all(&engine, lent);
-    let taken = engine.taken;
     let blocked = Blocked {
         state: read_state(&engine, [state.near_carry, state.far_carry], state.carried),
         block: array(&engine.output_block),
-        outcome: match taken.leak {
-            _ if taken.rescued => Outcome::Rescue,
-            Some(leak) => Outcome::Move(leak),
-            None => Outcome::NoMove,
-        },
+        reason: Reason::of(&engine.taken),
     };
-    (blocked, taken)
+    (blocked, engine.taken)
 }
 
 /// The Rust has its partitions from a tail in milliseconds. At this rate one of them has a partition's samples.
