@@ -3,7 +3,8 @@
 --     whole-block          256 pairs from an empty carry are a block of them
 --     rest-waits           fewer run no block, and the carry holds them
 --     stream-blocks        so from an empty carry a stream delivers the samples of its whole blocks of 256 pairs, one after the other, and
---                          its last outcome is theirs
+--                          its last block is theirs
+--     blocks-last          of blocks in a row the last block is the last one's
 --     rest-flushed         a flush after fewer is a block of them and then 0.0 up to 256, that does not adapt and delivers as many
 use mathlib.Core.Path.{_≡_, refl, sym, ap, _∙_, subst}
 use mathlib.Core.Bool.{Bool, true, false}
@@ -17,7 +18,8 @@ use lib.ListN.{length, take, drop, set, replicate, length-drop, length-set, leng
 use lib.Seq.{take-at, drop-drop, take-suc-set, drop-set-lt, length-take-le}
 use Rattle.laws.specs.Choice.{pick-yes, pick-no}
 use Rattle.numbers.specs.Finite.{finiteOrZero}
-use Rattle.tau_frame.specs.Pairs.{Engine, Run, waitsOf, blockOf, fillOf, pairOf, pairsOf, flushedOf}
+use Rattle.tau_state.specs.declared.report.Last.{Last}
+use Rattle.tau_frame.specs.Pairs.{Engine, Run, waitsOf, blockOf, fillOf, pairOf, lastOf, pairsOf, flushedOf}
 use Rattle.tau_block.specs.Block.{runBlock}
 use Rattle.tau_state.specs.Constants.{zero32}
 use Rattle.tau_streams.specs.Stream.{Good, joined, cleanOf, withCarry, withCarryAfter, blockOn, blocksOf, writtenTo, carryOf, byBlocks}
@@ -194,6 +196,11 @@ carry-next : (k : ℕ) (l stream : List Float) → carryOf k (cleanOf (take 256 
 carry-next k l stream =
     λ i. let rest = dropped-next k stream i in cleanOf rest ++ drop (length rest) (written-next k l stream i)
 
+-- a block that ran is the later
+block-later : (l : Last) (e : Engine) (near far : List Float) (n : ℕ) (adapt : Bool) → lastOf l (blockOf e near far n adapt .last) ≡ blockOf e near far n adapt .last
+unfolding lastOf blockOf
+block-later l e near far n adapt = refl
+
 blocks-then : (k m : ℕ) (e : Engine) (near far : List Float) → Good e → e .state .carried ≡ 0 → length near ≡ length far
     → length near ≡ 256 * k + m → m ≤ 255
     → pairsOf e near far ≡ withCarryAfter (blocksOf k e near far) (carryOf k (e .state .«near_carry») near) (carryOf k (e .state .«far_carry») far) m
@@ -222,10 +229,22 @@ blocks-then (suc k) m e near far g z l q b =
     ∙ ap (λ (q : Run). joined d (withCarryAfter q (carryOf k (cleanOf a) dn) (carryOf k (cleanOf c) df) m)) (blocks-carry k (r .engine) (cleanOf a) (cleanOf c) dn df)
     ∙ (λ i. withCarryAfter (joined r t) (carry-next k (e .state .«near_carry») near i) (carry-next k (e .state .«far_carry») far i) m)
 
--- So from an empty carry a stream is its whole blocks of 256 pairs, one after the other: these are its samples and its last outcome, and
+-- So from an empty carry a stream is its whole blocks of 256 pairs, one after the other: these are its samples and its last block, and
 -- the rest is left waiting.
 pub stream-blocks : (e : Engine) (near far : List Float) → Good e → e .state .carried ≡ 0 → length near ≡ length far → pairsOf e near far ≡ byBlocks e near far
 stream-blocks e near far g z l = blocks-then (length near / 256) (length near % 256) e near far g z l (omega arith) (omega arith)
+
+-- Of blocks in a row the last block is the last one's, run on the engine that those before it left.
+pub blocks-last : (k : ℕ) (e : Engine) (near far : List Float)
+    → blocksOf (suc k) e near far .last
+    ≡ blockOn (blocksOf k e near far .engine) (take 256 (drop (256 * k) near)) (take 256 (drop (256 * k) far)) .last
+unfolding blocksOf lastOf
+blocks-last zero e near far = refl
+blocks-last (suc k) e near far =
+    let b = blockOn e (take 256 near) (take 256 far) in
+    ap (lastOf (b .last)) (blocks-last k (b .engine) (drop 256 near) (drop 256 far))
+    ∙ block-later (b .last) _ _ _ 256 true
+    ∙ (λ i. blockOn (blocksOf k (b .engine) (drop 256 near) (drop 256 far) .engine) (take 256 (dropped-next k near i)) (take 256 (dropped-next k far i)) .last)
 
 -- A flush of pairs that wait at the front of a carry is a block of them and then 0.0 up to 256, that does not adapt and delivers as many.
 pub rest-flushed : (e : Engine) (near far u v : List Float) (m : ℕ) → length near ≡ m → length far ≡ m → 1 ≤ m

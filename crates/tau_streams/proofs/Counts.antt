@@ -282,6 +282,6 @@ flush-delivers e out h =
     let d = flushed-delivers e (a .state .ranged) in
     subst (Delivery (flushedOf e) n out) (sym (flush-ran e out h)) (served-delivery (flushedOf e) n out d (a .room))
 
--- With nothing carried an accepted flush delivers nothing and leaves all as it was; its outcome says that no block ran.
+-- With nothing carried an accepted flush delivers nothing and leaves all as it was; its report says that no block ran.
 pub flush-idle : (e : Engine) (out : List Float) → flushNumber e out ≡ 0 → e .state .carried ≡ 0 → flushOf e out ≡ refusedOf 0 e out
 flush-idle e out h z = flush-ran e out h ∙ ap (λ (r : Run). servedOf r out) (flushed-waits e z)

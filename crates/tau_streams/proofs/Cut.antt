@@ -1,5 +1,5 @@
 -- How a stream is cut into calls does not matter. Assumes nothing.
---     cut                  a stream cut in two: the engine, the samples and the last outcome are those of the two runs, one after the other
+--     cut                  a stream cut in two: the engine, the samples and the last block are those of the two runs, one after the other
 --     served-ran, call-ran     an accepted call leaves, delivers and reports what the run over its pairs does
 --     row-accepted         a row of calls on an engine in order, each with as many near as far samples, at most 4,096, and room for what
 --                          it delivers, is accepted
@@ -87,7 +87,7 @@ first-process : (e : Engine) (p : Part) → processNumber e (p .near) (p .far) (
     → Process (e .state) (length (e .shadow)) (length (e .output)) (length (e .spectra)) (length (p .near)) (length (p .far)) (length (p .out))
 first-process e p z = accepted-pairs (e .state) _ _ _ _ _ _ z
 
--- A row of accepted calls leaves the state and the buffers, delivers the samples, and last reports the outcome, of the run over the whole
+-- A row of accepted calls leaves the state and the buffers, delivers the samples, and last reports the block, of the run over the whole
 -- stream.
 pub row-runs : (e : Engine) (ps : List Part) → AllAccepted e ps → processedOf e ps .run ≡ pairsOf e (allNear ps) (allFar ps)
 unfolding processedOf allNear allFar pairsOf

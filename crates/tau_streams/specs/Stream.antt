@@ -44,9 +44,9 @@ leftBy c = record { state = c .answer .state; shadow = c .shadow; output = c .ou
 abbrev pub deliveredBy : Called → List Float
 deliveredBy c = take (c .answer .delivered) (c .out)
 
--- both, with the outcome of its report, as a run
+-- both, with the last block of its report, as a run
 abbrev pub ranBy : Called → Run
-ranBy c = record { engine = leftBy c; samples = deliveredBy c; last = c .answer .report .outcome }
+ranBy c = record { engine = leftBy c; samples = deliveredBy c; last = c .answer .report .last }
 
 -- An accepted call, of which r is the run and n its number of samples: it answers 0 and delivers n. These are the first places of the
 -- output buffer, which keeps its length, and the rest of it is as it was.
@@ -68,7 +68,7 @@ Rooms c (p ∷ ps) = (deliversOf c (length (p .near)) ≤ length (p .out)) × Ro
 pub record Roomy (c : ℕ) (ps : List Part) : Type 0 where
   pub rooms : Rooms c ps
 
--- two runs one after the other: the last engine, the samples of both, and what the last block of both did
+-- two runs one after the other: the last engine, the samples of both, and the last block of both
 abbrev pub joined : Run → Run → Run
 joined first second = record {
   engine = second .engine;
@@ -146,7 +146,7 @@ pub data Call : Type 0 where
   reset : Call
 
 -- What has come since the carry was last emptied, by creation, reset or flush: the engine as that left it, the pairs that were accepted
--- since, and what the calls since have made of it: the engine now, all samples delivered since, and what the last block since did.
+-- since, and what the calls since have made of it: the engine now, all samples delivered since, and the last block since.
 pub record Since : Type 0 where
   pub start : Engine
   pub near : List Float
