@@ -2,13 +2,13 @@
 -- buffer. Definitions only.
 use mathlib.Core.List.{List}
 use lib.Ieee.{Float}
-use Rattle.tau_state.specs.Report.{numberOf, leakIn}
+use Rattle.tau_state.specs.Report.{numberOf, leakIn, reasonNumber, reasonIn}
 use Rattle.tau.specs.declared.calls.Answer.{Answer}
 use Rattle.tau.specs.Calls.{Called}
 use Rattle.capi.specs.declared.tau_calls.TauAnswer.{TauAnswer}
 
 -- "If an answer is an enum, the promises use a definition that gives this paper's number and values for each of its cases": the outcome
--- by its number, and the leak, which is 0.0 where there is no move
+-- and the reason by their numbers, and the leak, which is 0.0 where there is no move
 abbrev pub numbersOf : Answer → TauAnswer
 numbersOf a = record {
   refusal = a .refusal;
@@ -18,6 +18,7 @@ numbersOf a = record {
   «divergence_resets» = a .report .«divergence_resets»;
   «double_talk» = a .report .«double_talk»;
   outcome = numberOf (a .report .outcome);
+  reason = reasonNumber (reasonIn (a .report .last));
   leak = leakIn (a .report .outcome);
 }
 

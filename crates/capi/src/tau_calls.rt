@@ -3,14 +3,16 @@ use tau::Answer;
 use tau::Started;
 use tau_state::report::leak_of;
 use tau_state::report::number;
+use tau_state::report::reason_number;
+use tau_state::report::reason_of;
 use tau_state::state::TauCanceller;
 ghost use mathlib.Core.Path.{_≡_};
 ghost use Rattle.tau.specs.Promises.{Create, Reset};
 ghost use Rattle.capi.specs.Tau.{numbersOf};
 ghost use Rattle.capi.specs.Promises.{TauProcess, TauFlush};
 
-// What process and flush answer, and then their report. The outcome: 0 no block run, 1 no move, 2 a rescue, 3 a move; the leak is that of
-// a move, and 0.0 where there is none.
+// What process and flush answer, and then their report. The outcome: 0 no block run, 1 no move, 2 a rescue, 3 a move. The reason: 0 to 9,
+// as `reason_number` has them. The leak is that of a move, and 0.0 where there is none.
 #[repr(C)]
 pub struct TauAnswer {
     pub refusal: u32,
@@ -20,6 +22,7 @@ pub struct TauAnswer {
     pub divergence_resets: u64,
     pub double_talk: bool,
     pub outcome: u32,
+    pub reason: u32,
     pub leak: f64,
 }
 
@@ -29,6 +32,7 @@ fn numbers_of(a: Answer) -> TauAnswer
     let state = a.state;
     let report = a.report;
     let outcome = report.outcome;
+    let last = report.last;
     TauAnswer {
         refusal: a.refusal,
         delivered: a.delivered,
@@ -37,6 +41,7 @@ fn numbers_of(a: Answer) -> TauAnswer
         divergence_resets: report.divergence_resets,
         double_talk: report.double_talk,
         outcome: number(outcome),
+        reason: reason_number(reason_of(last)),
         leak: leak_of(outcome),
     }
 }

@@ -1,4 +1,4 @@
--- `capi::tau_calls::numbers_of` has the outcome by its number and its leak. Assumes nothing.
+-- `capi::tau_calls::numbers_of` has the outcome and the reason by their numbers, and the leak. Assumes nothing.
 use borrow.Author.Needs.{needs}
 use Rattle.capi.proofs.tau_calls.numbers_of.Statement.{statement}
 use Rattle.capi.proofs.tau_calls.numbers_of.Tie as tie
@@ -9,4 +9,6 @@ numbers-of-spec =
     (tie.spec
     (λ c κs. search needs)
     (λ c κs. search needs)
-    (λ c. rw (c .leak-of .ensures, c .before .number .ensures)))
+    (λ c κs. search needs)
+    (λ c κs. search needs)
+    (λ c. rw (c .leak-of .ensures, c .before .reason-number .ensures, c .before .before .reason-of .ensures, c .before .before .before .number .ensures)))
