@@ -9,11 +9,11 @@ use Rattle.tau_block_laws.proofs.Ran.{ran-transfers}
 use Rattle.tau_block_laws.proofs.Resets.{ran-resets, more-held, shadow-clears, output-clears, update-clears, guard-clears}
 use Rattle.rho_state.specs.State as rhoStates
 use Rattle.rho.specs.Calls as rho
-use Rattle.tau_state.specs.Report.{reportOf}
+use Rattle.tau_state.specs.Report.{reasonIn, outcomeOf, reportOf}
 use Rattle.tau.specs.Calls as tau
 use Rattle.tau.proofs.Accepted as accepted
 use Rattle.tau_streams.proofs.Counts as tauCounts
-use Rattle.tau_streams.proofs.Outcomes.{process-reports, flush-reports, process-none, process-some, flush-none, flush-some, process-leak, flush-leak}
+use Rattle.tau_streams.proofs.Outcomes.{process-reports, flush-reports, process-outcome, flush-outcome, process-none, process-some, flush-none, flush-some, none-outcome, process-idle, flush-idle, process-leak, flush-leak}
 use Rattle.promises.specs.Demand2.{TransformRuns, ComplexRuns, LentRuns, TauBegins, RhoBegins, TauRuns, RhoRuns, TauWrites, RhoWrites, TauIdle, TauReports, RhoReports, Leaks, Transfers, Resets, StepsClear}
 
 pub transform-runs : TransformRuns
@@ -59,7 +59,7 @@ tau-idle e out h z = tauCounts.flush-idle e out (sym (accepted.flush-answers e o
 -- ---- reports
 
 pub tau-reports : TauReports
-unfolding reportOf
+unfolding reportOf reasonIn outcomeOf
 tau-reports e near far out =
     let p = accepted.process-answers e near far out in
     let f = accepted.flush-answers e out in
@@ -68,10 +68,10 @@ tau-reports e near far out =
       flush = flush-reports e out;
       processRefused = λ h. ap (λ (c : tau.Called). c .answer .report .outcome) (accepted.process-refused e near far out (λ z. h (p ∙ z)));
       flushRefused = λ h. ap (λ (c : tau.Called). c .answer .report .outcome) (accepted.flush-refused e out (λ z. h (f ∙ z)));
-      processWaits = λ h k. process-none e near far out (sym p ∙ h) k;
-      processRan = λ h k. process-some e near far out (sym p ∙ h) k;
-      flushWaits = λ h k. flush-none e out (sym f ∙ h) k;
-      flushRan = λ h k. flush-some e out (sym f ∙ h) k;
+      processWaits = λ h k. process-outcome e near far out ∙ none-outcome _ (process-none e near far out (sym p ∙ h) k);
+      processRan = λ h k z. process-some e near far out (sym p ∙ h) k (process-idle e near far out z);
+      flushWaits = λ h k. flush-outcome e out ∙ none-outcome _ (flush-none e out (sym f ∙ h) k);
+      flushRan = λ h k z. flush-some e out (sym f ∙ h) k (flush-idle e out z);
     }
 
 pub rho-reports : RhoReports

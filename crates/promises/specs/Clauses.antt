@@ -16,10 +16,12 @@ use Rattle.trig.specs.Tables.{recombination, twiddleRe, twiddleIm}
 use Rattle.complex_fft.specs.Reversal.{reversalTable, Reversed}
 use Rattle.rho_taps.specs.Update.{clearedOf}
 use Rattle.tau_steps.specs.Bounds.{Leak}
-use Rattle.tau_paths.specs.Paths.{verdict, counted}
+use Rattle.tau_paths.specs.Paths.{reasonOf, counted}
+use Rattle.tau_paths.specs.declared.paths.Conditions.{Conditions}
 use Rattle.laws.specs.Counting.{oneMore32}
 use Rattle.tau_state.specs.declared.state.Paths.{Paths}
 use Rattle.tau_state.specs.declared.report.Outcome.the-variants.{Move}
+use Rattle.tau_state.specs.declared.report.Reason.the-variants.{Moved}
 use Rattle.tau_block_laws.specs.Bounds.{Factor, Target}
 use Rattle.tau_update.specs.Update.{farPowerTo, factorOf}
 use Rattle.tau_suppressor.specs.Suppressor.{targetOf}
@@ -74,7 +76,7 @@ Reversal =
 -- "the leak is above 0 and at most 0.75": in every move that the comparison decides, whatever the powers; that it is so in every report is
 -- Demand2's `Leaks`
 abbrev pub MoveLeak : Type 0
-MoveLeak = (paths : Paths) (leak : Float) → verdict paths ≡ Move leak → Leak leak
+MoveLeak = (asked : Conditions) (paths : Paths) (leak : Float) → reasonOf asked paths ≡ Moved leak → Leak leak
 
 -- "the step factor in 6 is 0.02 to 1": of every bin k, whatever the spectra and the means hold
 abbrev pub StepFactor : Type 0

@@ -21,7 +21,7 @@ use Rattle.rho_state.specs.State as rhoStates
 use Rattle.rho_streams.specs.Stream as rhoStream
 use Rattle.tau_steps.specs.Bounds.{Leak}
 use Rattle.tau_paths.specs.Paths.{counted}
-use Rattle.tau_state.specs.Report.{reportOf}
+use Rattle.tau_state.specs.Report.{outcomeOf, reportOf}
 use Rattle.tau_state.specs.declared.state.TauCanceller.{TauCanceller}
 use Rattle.tau_state.specs.declared.report.Outcome.the-variants.{NotRun, Move}
 use Rattle.tau_block.specs.Block.{Block, runBlock}
@@ -98,9 +98,9 @@ TauIdle = (e : Engine) (out : List Float) → tau.flushOf e out .answer .refusal
 -- the state."
 pub record Reported (e : Engine) (near far out : List Float) : Type 0 where
   pub process : let a = tau.processOf e near far out .answer in
-      a .report ≡ reportOf (a .state .mic) (a .report .outcome)
+      a .report ≡ reportOf (a .state .mic) (a .report .last)
   pub flush : let a = tau.flushOf e out .answer in
-      a .report ≡ reportOf (a .state .mic) (a .report .outcome)
+      a .report ≡ reportOf (a .state .mic) (a .report .last)
   -- a refused call ran none,
   pub processRefused : let a = tau.processOf e near far out .answer in
       (a .refusal ≡ 0 → ⊥) → a .report .outcome ≡ NotRun
@@ -137,7 +137,7 @@ Leaks = (e : Engine) (near far out : List Float) (leak : Float)
 -- "transfers goes up by 1" in a block that moves, and in no other
 abbrev pub Transfers : Type 0
 Transfers = (e : Engine) (far : List Float) (b : Block)
-    → runBlock e far b .engine .state .mic .transfers ≡ counted (runBlock e far b .outcome) (e .state .mic .transfers)
+    → runBlock e far b .engine .state .mic .transfers ≡ counted (outcomeOf (runBlock e far b .told .reason)) (e .state .mic .transfers)
 
 -- the counter of resets goes up by 1 for each clear of a block, and by nothing else: after the block it is as many times one more as the
 -- block clears, which is so many more, held at the largest number of 64 bits

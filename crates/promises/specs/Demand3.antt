@@ -62,7 +62,7 @@ TauCalls =
     → TauHolds (afterCalls (anew (begunBy (tau.createOf parts flag sh ou xs))) cs))
     × ((e : Engine) (cs : List Call) → tau.resetOf e .answer .refusal ≡ 0 → TauHolds (afterCalls (anew (begunBy (tau.resetOf e))) cs))
 
--- any two ways to cut a stream into accepted calls give the same samples, state, buffers and last outcome,
+-- any two ways to cut a stream into accepted calls give the same samples, state, buffers and last block,
 abbrev pub TauCuts : Type 0
 TauCuts = (e : Engine) (ps qs : List Part) → AllAccepted e ps → AllAccepted e qs → allNear ps ≡ allNear qs → allFar ps ≡ allFar qs
     → processedOf e ps .run ≡ processedOf e qs .run

@@ -1,24 +1,195 @@
 -- What is promised of the requests that came after document 01, besides what they changed in its rules: those stand in the definitions,
 -- each beside the sentence that it mends. Statements; proved in proofs/Requests.antt.
 use mathlib.Core.Path.{_≡_}
-use mathlib.Core.Bool.{Bool, true, false, _&&_, _||_}
-use mathlib.Core.List.{List}
-use Prim.Native.Nat.{ℕ, _+_, _*_, _^_, _≤_, _<_, min}
+use mathlib.Core.Bool.{Bool, true, false, not, _&&_, _||_}
+use mathlib.Core.List.{List, [], _∷_, _++_}
+use Prim.Native.Nat.{ℕ, suc, _+_, _*_, _/_, _^_, _≤_, _<_, min}
 use lib.Dec.{T, leb, ltb}
 use lib.IntN.{ℤ}
-use lib.ListN.{getD}
-use lib.Ieee.{Float, nan, inf, fin, binary64, up, down, mul, eq, fits}
+use lib.ListN.{getD, length, take, drop}
+use lib.Ieee.{Float, nan, inf, fin, binary64, up, down, mul, eq, lt, le, fits}
+use Rattle.laws.specs.Choice.{pick}
+use Rattle.laws.specs.Counting.{oneMore}
 use Rattle.numbers.specs.Finite.{isFinite}
 use Rattle.numbers.specs.Narrowing.{narrowOf, isPlain, plainSquares, roundedOf}
 use Rattle.numbers.specs.Zeros.{Zero, Fits}
-use Rattle.tau_state.specs.Constants.{zero64}
+use Rattle.tau_state.specs.Constants.{zero64, f0·1}
 use Rattle.tau_state.specs.Sums.{energyOf, crossOf}
+use Rattle.tau_state.specs.Report.{reasonNumber, outcomeOf, reasonIn}
 use Rattle.tau_state.specs.declared.state.Detector.{Detector}
-use Rattle.tau_detector.specs.Detector.{coherenceOf, learned}
-use Rattle.tau_spectra.specs.Ring.{ringOf}
-use Rattle.tau_spectra.specs.Far.{hearFar}
+use Rattle.tau_state.specs.declared.state.Paths.{Paths}
+use Rattle.tau_state.specs.declared.report.Outcome.the-variants.{NoMove}
+use Rattle.tau_state.specs.declared.report.Reason.{Reason}
+use Rattle.tau_state.specs.declared.report.Reason.the-variants.{FlushBlock, OutputDiverged, FarNotActive, NotEstablished, Rescued, QuietStreakShort, NoOutputPower, NoAdvantage, Moved}
+use Rattle.tau_state.specs.declared.report.Last.the-variants.{NoneRan}
+use Rattle.tau_clears.specs.Weights.{leaked}
+use Rattle.tau_detector.specs.Detector.{coherenceOf, learned, judged}
+use Rattle.tau_paths.specs.Paths.{leakOf, advantageOf, acted, weighedIf}
+use Rattle.tau_spectra.specs.Ring.{Ring, ringOf}
+use Rattle.tau_spectra.specs.Far.{Heard, hearFar}
 use Rattle.tau_filter.specs.Filter.{shadowed}
-use Rattle.tau_block.specs.Block.{Block, Engine, runBlock}
+use Rattle.tau_update.specs.Update.{updated}
+use Rattle.tau_block.specs.Block.{Block, Listened, Engine, quiet, runBlock}
+use Rattle.tau_block.specs.Groups.{Filtered, Judgement, filtered, askedOf, updates, suppresses, delivered, gathered}
+use Rattle.tau.specs.Calls as tau
+use Rattle.tau_streams.specs.Stream.{Good, blockOn, blocksOf}
+
+-- ---- K2. Why the output filter did not move
+
+-- A reason of the row, and whether what it says is so.
+pub record Cause : Type 0 where
+  pub holds : Bool
+  pub reason : Reason
+
+abbrev pub cause : Bool → Reason → Cause
+cause b r = record { holds = b; reason = r }
+
+-- "the first that holds of ..; otherwise"
+unfoldable pub firstOf : List Cause → Reason → Reason
+firstOf [] otherwise = otherwise
+firstOf (c ∷ cs) otherwise = pick (c .holds) (c .reason) (firstOf cs otherwise)
+
+-- none of a row holds
+abbrev pub NoneHolds : List Cause → Type 0
+NoneHolds [] = T true
+NoneHolds (c ∷ cs) = (c .holds ≡ false) × NoneHolds cs
+
+abbrev pub FirstHolds : Type 0
+FirstHolds =
+    ((cs : List Cause) (otherwise : Reason) → NoneHolds cs → firstOf cs otherwise ≡ otherwise)
+    × ((before after : List Cause) (c : Cause) (otherwise : Reason) → NoneHolds before → c .holds ≡ true
+    → firstOf (before ++ (c ∷ after)) otherwise ≡ c .reason)
+
+-- What a block has come to before anything is decided: what was heard (steps 1 and 4), the two filters (2 and 3) and the detector (5),
+abbrev pub heardIn : Engine → List Float → Heard
+heardIn e far = let s = e .state in hearFar (s .partitions) (s .far) far (e .spectra)
+
+abbrev pub ringIn : Engine → List Float → Ring
+ringIn e far = let heard = heardIn e far in ringOf (e .state .partitions) (heard .far .head) (heard .spectra)
+
+abbrev pub filteredIn : Engine → List Float → Block → Filtered
+filteredIn e far b = filtered (ringIn e far) (b .near) (e .state .mic) (e .shadow) (e .output)
+
+abbrev pub detectorIn : Engine → List Float → Block → Detector
+detectorIn e far b =
+    judged (heardIn e far .active) (energyOf (b .near) (b .valid)) (b .near) (filteredIn e far b .estimate) (b .valid) (e .state .mic .detector)
+
+-- and "the powers and streak .. after this block's smoothing", before a rescue, the update or the guard change them
+abbrev pub pathsIn : Engine → List Float → Block → Paths
+pathsIn e far b =
+    let f = filteredIn e far b in
+    let d = detectorIn e far b in
+    weighedIf (askedOf (b .adapt) (heardIn e far .active) f d) (quiet d) (f .shadowError) (f .output .error) (b .valid) (f .output .paths)
+
+-- "the first that holds of .. flush block, output diverged, far not active, detector not established, rescued, quiet streak below 6, output
+-- power not above 0, advantage not at least 0.1; otherwise moved, with its leak": of every block, whatever the state, the buffers and the
+-- samples. A NaN is not above 0, and not at least 0.1.
+abbrev pub WhyFirst : Type 0
+WhyFirst = (e : Engine) (far : List Float) (b : Block)
+    → let paths = pathsIn e far b in
+    runBlock e far b .told .reason
+    ≡ firstOf
+    (cause (not (b .adapt)) FlushBlock
+    ∷ cause (filteredIn e far b .output .diverged) OutputDiverged
+    ∷ cause (not (heardIn e far .active)) FarNotActive
+    ∷ cause (not (leb 64 (detectorIn e far b .«dtd_blocks»))) NotEstablished
+    ∷ cause (leb 8 (paths .«rescue_streak»)) Rescued
+    ∷ cause (ltb (paths .«quiet_streak») 6) QuietStreakShort
+    ∷ cause (not (lt zero64 (paths .«output_error_power»))) NoOutputPower
+    ∷ cause (not (le f0·1 (advantageOf paths))) NoAdvantage
+    ∷ [])
+    (Moved (leakOf (advantageOf paths)))
+
+-- "The reason must be the one that the block rule acted on": the block is what comes of acting on the reason that it tells. Step 5 leaves the
+-- paths, the counter and both weights of that act, and steps 6 to 9 go on from these.
+abbrev pub actedIn : Engine → List Float → Block → Listened
+actedIn e far b =
+    let s = e .state in
+    let heard = heardIn e far in
+    let f = filteredIn e far b in
+    let d = detectorIn e far b in
+    let why = runBlock e far b .told .reason in
+    let j : Judgement = record {
+      detector = d;
+      comparison = acted why (pathsIn e far b) (s .mic .transfers) (f .output .shadow) (f .output .output);
+    } in
+    let u = updated (updates (b .adapt) f j) (ringIn e far) (f .shadowError) (d .«step_scale») (s .mic .«far_power_mean») (j .comparison .paths) (f .output .resets) (j .comparison .shadow) in
+    gathered j u
+    (delivered (suppresses (s .suppress) (heard .far .«far_active») f) (d .«protect_output») (b .near) (energyOf (b .near) (b .valid)) (b .valid)
+    (f .output) (s .mic) (u .paths) (u .resets) (j .comparison .output))
+
+abbrev pub WhyActed : Type 0
+WhyActed = (e : Engine) (far : List Float) (b : Block)
+    → let ran = runBlock e far b in
+    let left = actedIn e far b in
+    (ran .engine .state .mic ≡ left .microphone .mic)
+    × (ran .engine .shadow ≡ left .microphone .shadow)
+    × (ran .engine .output ≡ left .microphone .output)
+    × (ran .block ≡ left .block)
+
+-- and the act does what its reason says: a move moves the output's weights by its leak and is counted, a rescue copies them to the shadow,
+-- and of every other reason nothing comes
+abbrev pub ActsAsSaid : Type 0
+ActsAsSaid = (paths : Paths) (transfers : ℕ) (shadow output : List Float)
+    → ((leak : Float) → acted (Moved leak) paths transfers shadow output ≡ record {
+      paths = paths;
+      transfers = oneMore transfers;
+      rescued = false;
+      reason = Moved leak;
+      shadow = shadow;
+      output = leaked leak shadow output;
+    })
+    × (acted Rescued paths transfers shadow output ≡ record {
+      paths = record {
+        «shadow_error_power» = paths .«output_error_power»;
+        «output_error_power» = paths .«output_error_power»;
+        «quiet_streak» = paths .«quiet_streak»;
+        «rescue_streak» = 0;
+      };
+      transfers = transfers;
+      rescued = true;
+      reason = Rescued;
+      shadow = output;
+      output = output;
+    })
+    × ((why : Reason) → outcomeOf why ≡ NoMove → acted why paths transfers shadow output ≡ record {
+      paths = paths;
+      transfers = transfers;
+      rescued = false;
+      reason = why;
+      shadow = shadow;
+      output = output;
+    })
+
+-- In a report outcome and reason are never at odds, and the reason has the number 0 exactly where no block ran: after a refusal, after pairs
+-- that fill none, and after a flush of nothing. A flush of something says so.
+pub record Reasoned (e : Engine) (near far out : List Float) : Type 0 where
+  pub process : let a = tau.processOf e near far out .answer in
+      a .report .outcome ≡ outcomeOf (reasonIn (a .report .last))
+  pub flush : let a = tau.flushOf e out .answer in
+      a .report .outcome ≡ outcomeOf (reasonIn (a .report .last))
+  pub processRefused : let a = tau.processOf e near far out .answer in
+      (a .refusal ≡ 0 → ⊥) → a .report .last ≡ NoneRan
+  pub flushRefused : let a = tau.flushOf e out .answer in
+      (a .refusal ≡ 0 → ⊥) → a .report .last ≡ NoneRan
+  pub processWaits : let a = tau.processOf e near far out .answer in
+      a .refusal ≡ 0 → e .state .carried + length near ≤ 255 → a .report .last ≡ NoneRan
+  pub processRan : let a = tau.processOf e near far out .answer in
+      a .refusal ≡ 0 → 256 ≤ e .state .carried + length near → reasonNumber (reasonIn (a .report .last)) ≡ 0 → ⊥
+  pub flushWaits : let a = tau.flushOf e out .answer in
+      a .refusal ≡ 0 → e .state .carried ≡ 0 → a .report .last ≡ NoneRan
+  pub flushRan : let a = tau.flushOf e out .answer in
+      a .refusal ≡ 0 → 1 ≤ e .state .carried → reasonIn (a .report .last) ≡ FlushBlock
+
+abbrev pub WhyReported : Type 0
+WhyReported = (e : Engine) (near far out : List Float) → Reasoned e near far out
+
+-- "For the last block run": of a call from an empty carry that fills k + 1 blocks it is block k, run on the engine that the k before it left
+abbrev pub WhyLast : Type 0
+WhyLast = (e : Engine) (near far out : List Float) (k : ℕ) → Good e → e .state .carried ≡ 0
+    → tau.processOf e near far out .answer .refusal ≡ 0 → length near / 256 ≡ suc k
+    → tau.processOf e near far out .answer .report .last
+    ≡ blockOn (blocksOf k e near far .engine) (take 256 (drop (256 * k) near)) (take 256 (drop (256 * k) far)) .last
 
 -- ---- K3. Narrowing is hot
 

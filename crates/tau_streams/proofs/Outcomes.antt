@@ -2,8 +2,9 @@
 --     pairs-none, pairs-some     after pairs that fill no block the report has none, and else it has one
 --     flushed-some         so has that of a flush of what is carried (with nothing carried it has none: flushed-waits)
 --     process-none, process-some, flush-none, flush-some     the same of the reports of accepted calls
---     process-idle, flush-idle     the outcome that none ran is reported where none ran, and only there
+--     none-outcome, process-idle, flush-idle     the outcome that none ran is reported where none ran, and only there
 --     process-reports, flush-reports     the rest of a report is read from the state and from the last block
+--     process-outcome, flush-outcome     of this its outcome is the reason's
 --     process-leak, flush-leak     the leak of every report is above 0 and at most 0.75
 use mathlib.Core.Path.{_≡_, refl, sym, ap, _∙_, subst}
 use mathlib.Core.Bool.{Bool, true, false}
@@ -164,8 +165,20 @@ unfolding flushOf reportOf
 flush-reports e out =
     pick-if (λ (c : Called). c .answer .report ≡ reportOf (c .answer .state .mic) (c .answer .report .last)) _ (λ _. refl) (λ _. refl)
 
+pub process-outcome : (e : Engine) (near far out : List Float)
+    → let a = processOf e near far out .answer in
+    a .report .outcome ≡ outcomeOf (reasonIn (a .report .last))
+unfolding reportOf
+process-outcome e near far out = ap (λ (r : Report). r .outcome) (process-reports e near far out)
+
+pub flush-outcome : (e : Engine) (out : List Float)
+    → let a = flushOf e out .answer in
+    a .report .outcome ≡ outcomeOf (reasonIn (a .report .last))
+unfolding reportOf
+flush-outcome e out = ap (λ (r : Report). r .outcome) (flush-reports e out)
+
 module _ (e : Engine) (near far out : List Float) (h : processNumber e near far out ≡ 0) where
-  reported : processOf e near far out .answer .report .last ≡ pairsOf e near far .last
+  pub reported : processOf e near far out .answer .report .last ≡ pairsOf e near far .last
   reported = ap (λ (r : Run). r .last) (call-ran e near far out h)
 
   pub process-none : e .state .carried + length near ≤ 255 → processOf e near far out .answer .report .last ≡ NoneRan
@@ -179,7 +192,7 @@ module _ (e : Engine) (near far out : List Float) (h : processNumber e near far 
       pairs-some e near far (a .state .ranged) (a .pairs .level) k (sym reported ∙ z)
 
 module _ (e : Engine) (out : List Float) (h : flushNumber e out ≡ 0) where
-  flush-reported : flushOf e out .answer .report .last ≡ flushedOf e .last
+  pub flush-reported : flushOf e out .answer .report .last ≡ flushedOf e .last
   flush-reported = ap (λ (r : Run). r .last) (ap ranBy (flush-ran e out h) ∙ served-ran (flushedOf e) out)
 
   pub flush-none : e .state .carried ≡ 0 → flushOf e out .answer .report .last ≡ NoneRan
@@ -208,22 +221,20 @@ unfolding reasonIn outcomeOf
 leak-of NoneRan t leak e = not-run leak e
 leak-of (Did told) t leak e = t .bounded leak e
 
+pub none-outcome : (l : Last) → l ≡ NoneRan → outcomeOf (reasonIn l) ≡ NotRun
+unfolding outcomeOf reasonIn
+none-outcome l h = rw h
+
 pub process-idle : (e : Engine) (near far out : List Float) → processOf e near far out .answer .report .outcome ≡ NotRun
     → processOf e near far out .answer .report .last ≡ NoneRan
-unfolding reportOf
-process-idle e near far out h =
-    ran-of _ (process-told e near far out) (sym (ap (λ (r : Report). r .outcome) (process-reports e near far out)) ∙ h)
+process-idle e near far out h = ran-of _ (process-told e near far out) (sym (process-outcome e near far out) ∙ h)
 
 pub flush-idle : (e : Engine) (out : List Float) → flushOf e out .answer .report .outcome ≡ NotRun → flushOf e out .answer .report .last ≡ NoneRan
-unfolding reportOf
-flush-idle e out h = ran-of _ (flush-told e out) (sym (ap (λ (r : Report). r .outcome) (flush-reports e out)) ∙ h)
+flush-idle e out h = ran-of _ (flush-told e out) (sym (flush-outcome e out) ∙ h)
 
 -- The leak that a call reports is above 0 and at most 0.75.
 pub process-leak : (e : Engine) (near far out : List Float) (leak : Float) → processOf e near far out .answer .report .outcome ≡ Move leak → Leak leak
-unfolding reportOf
-process-leak e near far out leak h =
-    leak-of _ (process-told e near far out) leak (sym (ap (λ (r : Report). r .outcome) (process-reports e near far out)) ∙ h)
+process-leak e near far out leak h = leak-of _ (process-told e near far out) leak (sym (process-outcome e near far out) ∙ h)
 
 pub flush-leak : (e : Engine) (out : List Float) (leak : Float) → flushOf e out .answer .report .outcome ≡ Move leak → Leak leak
-unfolding reportOf
-flush-leak e out leak h = leak-of _ (flush-told e out) leak (sym (ap (λ (r : Report). r .outcome) (flush-reports e out)) ∙ h)
+flush-leak e out leak h = leak-of _ (flush-told e out) leak (sym (flush-outcome e out) ∙ h)
