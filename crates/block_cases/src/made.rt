@@ -12,7 +12,7 @@ pub struct Sounds {
 
 // Near and far are noise. Near then has an echo, of so many samples as there are; the others are 0.0 in both.
 pub fn heard(line: &[u8], near_seed: u64, far_seed: u64, valid: usize) -> Sounds
-    requires { ⌜ length (now line) ≡ 665 ⌝ }
+    requires { ⌜ length (now line) ≡ 699 ⌝ }
 {
     let mut near = [0.0f32; 256];
     let mut far = [0.0f32; 256];

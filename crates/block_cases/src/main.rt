@@ -1,12 +1,14 @@
 // Runs Tau's blocks on a list of them, and compares with what the Rust gave (oracle/block_cases.rs). A line is a step on what the lines
 // before it left: the state and the three buffers are kept from line to line.
 //
-// A line has 39 fields. A half is 8 digits of a field. The letters are those in steps.rt, and what fields 0 to 7 are for each.
+// A line has 41 fields. A half is 8 digits of a field. The letters are those in steps.rt, and what fields 0 to 7 are for each.
 //
 //     8         the outcome of the last block: 0 none run, 1 no move, 2 a rescue, 3 a move
 //     9         its leak, and 0 where it is no move
 //     10        the hash of what it delivers, all 256 samples; where none is run, of zeros
 //     11 to 38  the state and the three buffers, as many of a buffer's numbers as the partitions have (crate `tau_lines`)
+//     39        halves: the reason of the last block, 0 to 9 as `reason_number` has them; and kept for the count of request K8
+//     40        kept for the powers of request K10
 //
 // A field without a use is 0.
 mod got;
@@ -15,6 +17,7 @@ mod steps;
 
 use cases::Tally;
 use got::Got;
+use got::because;
 use got::fields_of;
 use steps::begun;
 use steps::done;
@@ -23,8 +26,8 @@ use tau_state::state::TauCanceller;
 ghost use mathlib.Core.Path.{_≡_};
 ghost use lib.ListN.{length};
 
-// A letter, 39 times a blank and 16 digits, and the line's end.
-const SIZE: usize = 665;
+// A letter, 41 times a blank and 16 digits, and the line's end.
+const SIZE: usize = 699;
 
 // What a line leaves to the next one, besides the buffers.
 pub struct Turn {
@@ -72,7 +75,7 @@ fn judged(
     output: &mut [f64],
     spectra: &mut [f64],
 ) -> Turn
-    requires { ⌜ length (now line) ≡ 665 ⌝ }
+    requires { ⌜ length (now line) ≡ 699 ⌝ }
     requires { ⌜ length (now shadow) ≡ 16448 ⌝ }
     requires { ⌜ length (now output) ≡ 16448 ⌝ }
     requires { ⌜ length (now spectra) ≡ 16448 ⌝ }
@@ -105,7 +108,7 @@ fn taken(
     output: &mut [f64],
     spectra: &mut [f64],
 ) -> Turn
-    requires { ⌜ length (now line) ≡ 665 ⌝ }
+    requires { ⌜ length (now line) ≡ 699 ⌝ }
 {
     let got = done(line, state, shadow, output, spectra);
     finished(
@@ -120,15 +123,16 @@ fn taken(
 
 // The same, with what the step came to.
 fn finished(tally: Tally, line: &[u8], got: Got, shadow: u64, output: u64, spectra: u64) -> Turn
-    requires { ⌜ length (now line) ≡ 665 ⌝ }
+    requires { ⌜ length (now line) ≡ 699 ⌝ }
 {
     let state = got.state;
     if !got.is_known {
         return refused(tally, state);
     }
+    let last = [because(got), 0];
     let numbers = fields_of(got, shadow, output, spectra);
     Turn {
-        tally: compared(tally, line, numbers),
+        tally: compared(tally, line, last, numbers),
         state,
     }
 }
@@ -140,10 +144,16 @@ fn refused(tally: Tally, state: TauCanceller) -> Turn {
     }
 }
 
-// One judgement a line, by the first number that differs.
-fn compared(tally: Tally, line: &[u8], got: [u64; 31]) -> Tally
-    requires { ⌜ length (now line) ≡ 665 ⌝ }
+// One judgement a line, by the first number that differs: of fields 39 and 40, then of 8 to 38.
+fn compared(tally: Tally, line: &[u8], last: [u64; 2], got: [u64; 31]) -> Tally
+    requires { ⌜ length (now line) ≡ 699 ⌝ }
 {
+    for k in 0..2usize {
+        let want = cases::field(line, 39 + k);
+        if last[k] != want {
+            return cases::judge(tally, last[k], want);
+        }
+    }
     for k in 0..31usize {
         let want = cases::field(line, 8 + k);
         if got[k] != want {

@@ -21,7 +21,7 @@ ghost use lib.ListN.{length};
 
 // The state that a step starts from.
 pub fn begun(line: &[u8], state: TauCanceller) -> TauCanceller
-    requires { ⌜ length (now line) ≡ 665 ⌝ }
+    requires { ⌜ length (now line) ≡ 699 ⌝ }
 {
     let letter = line[0];
     match letter {
@@ -38,7 +38,7 @@ pub fn done(
     output: &mut [f64],
     spectra: &mut [f64],
 ) -> Got
-    requires { ⌜ length (now line) ≡ 665 ⌝ }
+    requires { ⌜ length (now line) ≡ 699 ⌝ }
 {
     let letter = line[0];
     match letter {
@@ -71,7 +71,7 @@ fn made(
     output: &mut [f64],
     spectra: &mut [f64],
 ) -> Got
-    requires { ⌜ length (now line) ≡ 665 ⌝ }
+    requires { ⌜ length (now line) ≡ 699 ⌝ }
 {
     let r = tau_lines::remake(line, state, shadow, output, spectra);
     let after = r.state;
@@ -90,7 +90,7 @@ fn run(
     output: &mut [f64],
     spectra: &mut [f64],
 ) -> Got
-    requires { ⌜ length (now line) ≡ 665 ⌝ }
+    requires { ⌜ length (now line) ≡ 699 ⌝ }
 {
     let size = cases::field(line, 6);
     let valid = cases::high(size) as usize;

@@ -12,12 +12,14 @@ use tau::Answer;
 use tau::Started;
 use tau_state::report::leak_of;
 use tau_state::report::number;
+use tau_state::report::reason_number;
+use tau_state::report::reason_of;
 use tau_state::state::TauCanceller;
 ghost use mathlib.Core.Path.{_≡_};
 ghost use lib.ListN.{length};
 
-// What a line comes to, but for the lent buffers: where there is a call as it says, its answer, the outcome by its number and the leak
-// by its bits, and the output buffer's hash.
+// What a line comes to, but for the lent buffers: where there is a call as it says, its answer, the outcome and the reason by their
+// numbers and the leak by its bits, and the output buffer's hash.
 pub struct Got {
     pub is_known: bool,
     pub refusal: u32,
@@ -28,6 +30,7 @@ pub struct Got {
     pub double_talk: bool,
     pub outcome: u32,
     pub leak: u64,
+    pub reason: u32,
     pub hash: u64,
 }
 
@@ -38,7 +41,7 @@ pub fn called(
     output: &mut [f64],
     spectra: &mut [f64],
 ) -> Got
-    requires { ⌜ length (now line) ≡ 750 ⌝ }
+    requires { ⌜ length (now line) ≡ 801 ⌝ }
 {
     let letter = line[0];
     match letter {
@@ -53,7 +56,7 @@ pub fn called(
 }
 
 fn created(line: &[u8], shadow: &mut [f64], output: &mut [f64], spectra: &mut [f64]) -> Got
-    requires { ⌜ length (now line) ≡ 750 ⌝ }
+    requires { ⌜ length (now line) ≡ 801 ⌝ }
 {
     let partitions = cases::field(line, 0) as usize;
     let suppress = cases::field(line, 1) != 0;
@@ -67,7 +70,7 @@ fn made(
     output: &mut [f64],
     spectra: &mut [f64],
 ) -> Got
-    requires { ⌜ length (now line) ≡ 750 ⌝ }
+    requires { ⌜ length (now line) ≡ 801 ⌝ }
 {
     let r = tau_lines::remake(line, state, shadow, output, spectra);
     let after = r.state;
@@ -84,7 +87,7 @@ fn processed(
     output: &mut [f64],
     spectra: &mut [f64],
 ) -> Got
-    requires { ⌜ length (now line) ≡ 750 ⌝ }
+    requires { ⌜ length (now line) ≡ 801 ⌝ }
 {
     let pairs = cases::field(line, 6);
     let given = cases::high(pairs) as usize;
@@ -138,7 +141,7 @@ fn flushed(
     output: &mut [f64],
     spectra: &mut [f64],
 ) -> Got
-    requires { ⌜ length (now line) ≡ 750 ⌝ }
+    requires { ⌜ length (now line) ≡ 801 ⌝ }
 {
     let room = cases::low(cases::field(line, 40)) as usize;
     if 4104 < room {
@@ -169,6 +172,7 @@ fn answered(a: Answer, hash: u64) -> Got {
     let state = a.state;
     let report = a.report;
     let outcome = report.outcome;
+    let last = report.last;
     Got {
         is_known: true,
         refusal: a.refusal,
@@ -179,6 +183,7 @@ fn answered(a: Answer, hash: u64) -> Got {
         double_talk: report.double_talk,
         outcome: number(outcome),
         leak: numbers::to_bits(leak_of(outcome)),
+        reason: reason_number(reason_of(last)),
         hash,
     }
 }
@@ -210,6 +215,7 @@ fn quiet(is_known: bool, refusal: u32, state: TauCanceller) -> Got {
         double_talk: false,
         outcome: 0,
         leak: 0,
+        reason: 0,
         hash: 0,
     }
 }

@@ -1,7 +1,7 @@
 // Runs Tau's calls on a list of them, and compares with what the Rust gave (oracle/tau_cases.rs). A line is a call on what the lines
 // before it left: the state and the three buffers are kept from line to line.
 //
-// A line has 44 fields. A half is 8 digits of a field. The letters are those in calls.rt, and what fields 0 to 7 are for each.
+// A line has 47 fields. A half is 8 digits of a field. The letters are those in calls.rt, and what fields 0 to 7 are for each.
 //
 //     8         halves, the report: whether there is double talk, and the outcome: 0 no block run, 1 no move, 2 a rescue, 3 a move
 //     9         the report: the move's leak, and 0 where it is no move
@@ -11,6 +11,8 @@
 //     40        halves: how much is lent of the far spectra, and of the output buffer
 //     41        halves: the refusal, and the number of delivered samples
 //     42, 43    the report: the transfers, and the resets
+//     44        halves, the report: the reason, 0 to 9 as `reason_number` has them; and kept for the count of request K8
+//     45, 46    kept for the powers of request K10: how much is lent of them, and their hash
 //
 // A field without a use is 0.
 mod calls;
@@ -25,8 +27,8 @@ use tau_state::state::TauCanceller;
 ghost use mathlib.Core.Path.{_≡_};
 ghost use lib.ListN.{length};
 
-// A letter, 44 times a blank and 16 digits, and the line's end.
-const SIZE: usize = 750;
+// A letter, 47 times a blank and 16 digits, and the line's end.
+const SIZE: usize = 801;
 
 // What a line leaves to the next one, besides the buffers.
 pub struct Turn {
@@ -74,7 +76,7 @@ fn judged(
     output: &mut [f64],
     spectra: &mut [f64],
 ) -> Turn
-    requires { ⌜ length (now line) ≡ 750 ⌝ }
+    requires { ⌜ length (now line) ≡ 801 ⌝ }
     requires { ⌜ length (now shadow) ≡ 16456 ⌝ }
     requires { ⌜ length (now output) ≡ 16456 ⌝ }
     requires { ⌜ length (now spectra) ≡ 16456 ⌝ }
@@ -114,7 +116,7 @@ fn taken(
     output: &mut [f64],
     spectra: &mut [f64],
 ) -> Turn
-    requires { ⌜ length (now line) ≡ 750 ⌝ }
+    requires { ⌜ length (now line) ≡ 801 ⌝ }
 {
     let got = called(line, state, shadow, output, spectra);
     finished(
@@ -129,7 +131,7 @@ fn taken(
 
 // The same, with what the call came to.
 fn finished(tally: Tally, line: &[u8], got: Got, shadow: u64, output: u64, spectra: u64) -> Turn
-    requires { ⌜ length (now line) ≡ 750 ⌝ }
+    requires { ⌜ length (now line) ≡ 801 ⌝ }
 {
     let state = got.state;
     if !got.is_known {
@@ -139,6 +141,9 @@ fn finished(tally: Tally, line: &[u8], got: Got, shadow: u64, output: u64, spect
         halves(got.refusal as u64, got.delivered as u64),
         got.transfers,
         got.divergence_resets,
+        halves(got.reason as u64, 0),
+        0,
+        0,
     ];
     let first = [
         halves(flag(got.double_talk), got.outcome as u64),
@@ -163,11 +168,11 @@ fn refused(tally: Tally, state: TauCanceller) -> Turn {
     }
 }
 
-// One judgement a line, by the first number that differs: of fields 41 to 43, then of 8 to 38.
-fn compared(tally: Tally, line: &[u8], answer: [u64; 3], got: [u64; 31]) -> Tally
-    requires { ⌜ length (now line) ≡ 750 ⌝ }
+// One judgement a line, by the first number that differs: of fields 41 to 46, then of 8 to 38.
+fn compared(tally: Tally, line: &[u8], answer: [u64; 6], got: [u64; 31]) -> Tally
+    requires { ⌜ length (now line) ≡ 801 ⌝ }
 {
-    for k in 0..3usize {
+    for k in 0..6usize {
         let want = cases::field(line, 41 + k);
         if answer[k] != want {
             return cases::judge(tally, answer[k], want);

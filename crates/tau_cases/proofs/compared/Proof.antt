@@ -5,10 +5,10 @@ use Rattle.tau_cases.proofs.compared.Statement.{statement}
 use Rattle.tau_cases.proofs.compared.Tie as tie
 
 abbrev Inv-loop : tie.InvT-loop
-Inv-loop tally line answer got k₀ k = k ≤ 3
+Inv-loop tally line answer got k₀ k = k ≤ 6
 
 abbrev μ-loop : tie.MeasureT-loop
-μ-loop tally line answer got k₀ k = 3 - k
+μ-loop tally line answer got k₀ k = 6 - k
 
 abbrev Inv-loop2 : tie.InvT-loop2
 Inv-loop2 tally line got k₀ k = k ≤ 31
