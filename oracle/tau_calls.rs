@@ -48,11 +48,11 @@ pub const REASONS: [&str; 10] = [
     "flush block",
     "output diverged",
     "far not active",
-    "not established",
+    "detector not established",
     "rescued",
-    "quiet streak short",
-    "no output power",
-    "no advantage",
+    "quiet streak below 6",
+    "output power not above 0",
+    "advantage not at least 0.1",
     "moved",
 ];
 

@@ -39,10 +39,10 @@ fn every_line_comes_to_its_answer() {
     for line in &lines {
         replay.take(line);
     }
-    assert_eq!(lines.len(), 464);
+    assert_eq!(lines.len(), 632);
     let owned = Owned {
-        taken: 418,
-        refused: 46,
+        taken: 583,
+        refused: 49,
     };
     assert_eq!(replay.owned, owned);
 }
