@@ -2,12 +2,12 @@
 //! where the next reason holds too, or where the state that is left would tell another. They stand at the end of the list, so that the
 //! lines before them keep their seeds.
 
+use crate::aspeyruni::tau::reason::*;
 use crate::aspeyruni::tau::*;
 use crate::block_borders::SOME;
 use crate::inputs::word_of;
 use crate::kinds::*;
 use crate::recipe::{sounds_of, Recipe};
-use crate::tau_calls::reason::*;
 use crate::tau_lines::*;
 use crate::List;
 

@@ -2,7 +2,7 @@
 
 #![allow(dead_code)] // a driver uses a part
 
-use crate::aspeyruni::tau::{Answer, Started, TauCanceller, BLOCK};
+use crate::aspeyruni::tau::{reason, Answer, Started, TauCanceller, BLOCK};
 use crate::taken::{Taken, Test};
 
 #[derive(Clone, Copy, Debug, PartialEq)]
@@ -28,33 +28,16 @@ pub enum Reason {
     Moved(f64),
 }
 
-/// Their numbers, as the host library has them.
-pub mod reason {
-    pub const NO_BLOCK: u32 = 0;
-    pub const FLUSH_BLOCK: u32 = 1;
-    pub const OUTPUT_DIVERGED: u32 = 2;
-    pub const FAR_NOT_ACTIVE: u32 = 3;
-    pub const NOT_ESTABLISHED: u32 = 4;
-    pub const RESCUED: u32 = 5;
-    pub const QUIET_STREAK_SHORT: u32 = 6;
-    pub const NO_OUTPUT_POWER: u32 = 7;
-    pub const NO_ADVANTAGE: u32 = 8;
-    pub const MOVED: u32 = 9;
-}
-
-/// By their numbers.
-pub const REASONS: [&str; 10] = [
-    "no block run",
-    "flush block",
-    "output diverged",
-    "far not active",
-    "detector not established",
-    "rescued",
-    "quiet streak below 6",
-    "output power not above 0",
-    "advantage not at least 0.1",
-    "moved",
-];
+/// In words, by their numbers.
+pub const REASONS: [&str; reason::MOVED as usize + 1] = {
+    let mut words = [""; reason::MOVED as usize + 1];
+    let mut number = 0;
+    while number < words.len() {
+        words[number] = reason::words(number as u32);
+        number += 1;
+    }
+    words
+};
 
 #[derive(Clone, Copy, Debug)]
 pub struct Blocked {

@@ -1,12 +1,12 @@
 //! Calls by the reason that they report for their last block (request K2): every one from creation and from a stored state, and none
 //! where the call ran no block.
 
+use crate::aspeyruni::tau::reason::*;
 use crate::aspeyruni::tau::*;
 use crate::aspeyruni::MAX_PAIRS;
 use crate::inputs::word_of;
 use crate::kinds::*;
 use crate::recipe::{sounds_of, Recipe, Sounds};
-use crate::tau_calls::reason::*;
 use crate::tau_lines::*;
 use crate::{after, learnt, ones, List};
 
