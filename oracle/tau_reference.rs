@@ -248,9 +248,14 @@ impl Continued {
         )
     }
 
-    /// Whether an answer reports the same, with the reason of the last block that the last call ran.
+    /// Of the last block that the last call ran.
+    pub fn reason(&self) -> Reason {
+        Reason::of(&self.0.taken)
+    }
+
+    /// Whether an answer reports the same, with the reason.
     pub fn reports(&self, a: &Answer) -> bool {
-        let reason = Reason::of(&self.0.taken);
+        let reason = self.reason();
         (a.transfers, a.divergence_resets, a.double_talk) == self.report()
             && (a.reason, a.leak) == (reason.number(), reason.outcome().leak())
     }
