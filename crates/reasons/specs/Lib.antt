@@ -1,0 +1,5 @@
+pub mod Words
+pub mod Leak
+pub mod Line
+pub mod Course
+pub mod Tally
