@@ -3,3 +3,4 @@ pub mod Leak
 pub mod Line
 pub mod Course
 pub mod Tally
+pub mod Note
