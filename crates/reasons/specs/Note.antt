@@ -1,12 +1,13 @@
--- What a block's reason adds to a run. Definitions only.
+-- What a block's reason, and a reset, add to a run. Definitions only.
 --     leakWith reason            the leak that it moved with, 0.0 where it did not move
 --     courseAfter c reason       where the run is then; countsAfter likewise
 --     Stretch c t                t is the line of the stretch, or nothing where it has no blocks
 --     Ended c number leak t      t is that line where a block with this reason ends the stretch, or nothing
 --     Ends c reason t            the same of a call's report, which may tell of no block
+--     Reset c t                  t is the line of the stretch, and behind it that of a reset
 use mathlib.Core.Path.{_≡_}
 use mathlib.Core.Bool.{true, false}
-use mathlib.Core.List.{List, []}
+use mathlib.Core.List.{List, [], _∷_, _++_}
 use Prim.Native.Nat.{ℕ, _-_, _≤_, _<_}
 use lib.Dec.{eqb}
 use lib.Ieee.{Float}
@@ -39,3 +40,12 @@ pub record Ended (c : Course) (number : ℕ) (leak : Float) (t : List ℕ) : Typ
 pub record Ends (c : Course) (reason : Reason) (t : List ℕ) : Type 0 where
   pub none : reasonNumber reason ≡ 0 → t ≡ []
   pub some : 0 < reasonNumber reason → Ended c (reasonNumber reason) (leakWith reason) t
+
+-- "reset", with the line's end
+abbrev pub resetWord : List ℕ
+resetWord = 114 ∷ 101 ∷ 115 ∷ 101 ∷ 116 ∷ 10 ∷ []
+
+pub record Reset (c : Course) (t : List ℕ) : Type 0 where
+  pub stretch : List ℕ
+  pub is-stretch : Stretch c stretch
+  pub is-reset : t ≡ stretch ++ resetWord

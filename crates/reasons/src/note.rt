@@ -8,10 +8,11 @@ use tau_state::report::Reason;
 use tau_state::report::leak_of;
 use tau_state::report::outcome_of;
 use tau_state::report::reason_number;
+use text::put;
 ghost use mathlib.Core.Path.{_≡_};
 ghost use Prim.Native.Nat.{_≤_};
 ghost use lib.ListN.{length, take};
-ghost use Rattle.reasons.specs.Note.{Stretch, Ended, Ends, courseAfter, countsAfter};
+ghost use Rattle.reasons.specs.Note.{Stretch, Ended, Ends, Reset, courseAfter, countsAfter};
 
 // The line ends at `end`; where no stretch ended, that is 0.
 pub struct Noted {
@@ -62,4 +63,14 @@ pub fn put_stretch(c: Course, line: &mut [u8]) -> usize
         return 0;
     }
     put_line(c.first, c.blocks - 1, c.number, c.leak, line)
+}
+
+// A reset ends the stretch, and has a line of its own.
+pub fn put_reset(c: Course, text: &mut [u8]) -> usize
+    requires { ⌜ 117 ≤ length (now text) ⌝ }
+    ensures { λ r. ⌜ r ≤ 117 ⌝ }
+    ensures { λ r. ⌜ Reset c (take r (now (text .exit))) ⌝ }
+{
+    let end = put_stretch(c, text);
+    put(b"reset\n", end, text)
 }
