@@ -17,11 +17,12 @@ use tau::Answer;
 use tau_state::report::reason_of;
 use tau_state::state::TauCanceller;
 ghost use mathlib.Core.Path.{_≡_};
+ghost use mathlib.Core.Bool.{true};
 ghost use Prim.Native.Nat.{_≤_};
 ghost use lib.ListN.{length};
 ghost use Rattle.tau_state.specs.Report.{reasonIn};
 ghost use Rattle.reasons.specs.Note.{courseAfter, countsAfter};
-ghost use Rattle.watch.specs.Watched.{begunOf, fedBy, flushedBy, resetBy};
+ghost use Rattle.watch.specs.Watched.{begunOf, fedBy, flushedBy, resetBy, piecesOf};
 
 // Where the run is. `is_written` is whether all that was to be written was.
 pub struct Watch {
@@ -55,6 +56,7 @@ pub fn pairs(
     requires { ⌜ w .state .carried ≤ 255 ⌝ }
     requires { ⌜ length (now counts) ≡ 10 ⌝ }
     ensures { λ r. ⌜ r .state .carried ≤ 255 ⌝ }
+    ensures { λ r. ⌜ (r .«is_written» ≡ true → record { engine = record { state = r .state; shadow = now (shadow .exit); output = now (output .exit); spectra = now (spectra .exit) }; course = r .course; counts = now (counts .exit) } ≡ piecesOf (length (now (bytes .entry))) (record { engine = record { state = w .state; shadow = now (shadow .entry); output = now (output .entry); spectra = now (spectra .entry) }; course = w .course; counts = now (counts .entry) }) (now (bytes .entry))) ⌝ }
 {
     let mut after = w;
     let mut at = 0usize;

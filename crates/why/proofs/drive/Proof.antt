@@ -31,7 +31,7 @@ drive-spec =
     (λ c. omega (arith, ltb-true))
     (λ c. let p = c .before .before .before .before .before .before .before .before .before .pairs in
     let v = c .before .before .before .before .before .before .before .before .before .before .before .before .before .before .before .before .before .before .before .before .loop .inv in (
-      (p .ensures, c .before .before .before .before .before .before .before .before .before .before .before .before .before .before .before .before .fill .kept .0 ∙ v .0 .1),
+      (p .ensures .0, c .before .before .before .before .before .before .before .before .before .before .before .before .before .before .before .before .fill .kept .0 ∙ v .0 .1),
       (p .kept .1 .1 .0 ∙ v .1 .0, (p .kept .1 .1 .1 .0 ∙ v .1 .1 .0, (p .kept .1 .1 .1 .1 .0 ∙ v .1 .1 .1 .0, p .kept .1 .1 .1 .1 .1 .0 ∙ v .1 .1 .1 .1))),
     ))
     (λ c κs. search needs)
