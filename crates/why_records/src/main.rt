@@ -8,6 +8,7 @@ use watch::Watch;
 ghost use mathlib.Core.Path.{_≡_};
 ghost use Prim.Native.Nat.{_≤_};
 ghost use lib.ListN.{length};
+ghost use Rattle.why_records.specs.Called.{Called};
 
 fn main() {
     let mut shadow = [0.0f64; 2056];
@@ -65,6 +66,7 @@ fn called(
     requires { ⌜ watch .state .carried ≤ 255 ⌝ }
     requires { ⌜ length (now counts) ≡ 10 ⌝ }
     ensures { λ r. ⌜ r .state .carried ≤ 255 ⌝ }
+    ensures { λ r. ⌜ Called kind (now (payload .entry)) (record { engine = record { state = watch .state; shadow = now (shadow .entry); output = now (output .entry); spectra = now (spectra .entry) }; course = watch .course; counts = now (counts .entry) }) (r .«is_written») (record { engine = record { state = r .state; shadow = now (shadow .exit); output = now (output .exit); spectra = now (spectra .exit) }; course = r .course; counts = now (counts .exit) }) ⌝ }
 {
     if kind == 1 {
         return watch::pairs(watch, payload, shadow, output, spectra, counts);

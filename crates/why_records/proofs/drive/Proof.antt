@@ -45,7 +45,7 @@ drive-spec =
     (λ c. let p = c .before .before .before .before .before .before .before .before .before .called in
     let v = c .before .before .before .before .before .before .before .before .before .before .before .before .before .before .before .before .before .before .before .before .before .before .before .before .before .loop .inv in
     let lies = whole _ (c .before .before .before .before .before .before .before .before .before .before .before .before .before .before .before .before .before .before .before .before .before .next-record .ensures) (c .before .before .before .before .before .before .before .before .before .before .before .before .before .before .before .before .before .before .next .given .1) .1 .0 .0 in (
-      (p .ensures, (c .before .before .before .before .before .before .before .before .before .before .before .before .before .before .before .before .before .before .before .before .before .next-record .kept .1 .0 ∙ v .0 .1 .0, lies)),
+      (p .ensures .0, (c .before .before .before .before .before .before .before .before .before .before .before .before .before .before .before .before .before .before .before .before .before .next-record .kept .1 .0 ∙ v .0 .1 .0, lies)),
       (p .kept .1 .1 .1 .0 ∙ v .1 .0, (p .kept .1 .1 .1 .1 .0 ∙ v .1 .1 .0, (p .kept .1 .1 .1 .1 .1 .0 ∙ v .1 .1 .1 .0, p .kept .1 .1 .1 .1 .1 .1 .0 ∙ v .1 .1 .1 .1))),
     ))
     (λ c κs. search needs)
