@@ -1,0 +1,3 @@
+pub mod Waits
+pub mod Calls
+pub mod Pieces
