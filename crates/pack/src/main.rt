@@ -4,11 +4,10 @@
 //
 // At the input's end an unfinished pair is dropped. A read or a write that fails is told of on standard error, and ends the run; after a
 // failed read what was read is still recorded and flushed. No call is refused (theorem `program` of recorded).
-mod input;
 mod output;
 
-use input::fill;
 use output::emit;
+use pipe::fill;
 use tau_state::state::TauCanceller;
 ghost use mathlib.Core.Path.{_≡_};
 ghost use Rattle.recorded.specs.Program.{engineBy, blockOf, flushOf, buffersBy};
@@ -57,7 +56,7 @@ fn one_turn(
     output: &mut [f64],
     spectra: &mut [f64],
 ) -> Turn {
-    let held = fill(block);
+    let held = fill(b"pack", block);
     if held < 8 {
         return Turn {
             goes_on: false,

@@ -1,6 +1,6 @@
 // Writing.
-use libc::STDERR_FILENO;
 use libc::STDOUT_FILENO;
+use pipe::complain;
 ghost use Prim.Native.Nat.{_≤_};
 ghost use lib.ListN.{length};
 
@@ -10,11 +10,7 @@ pub fn emit(bytes: &[u8], count: usize) -> bool
 {
     let is_written = io::write_all(STDOUT_FILENO, &bytes[..count]);
     if !is_written {
-        complain(b"pack: a write failed\n");
+        complain(b"pack", b": a write failed\n");
     }
     is_written
-}
-
-pub fn complain(line: &[u8]) {
-    io::write_all(STDERR_FILENO, line);
 }

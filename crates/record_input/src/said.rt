@@ -1,6 +1,6 @@
 // What a program says on standard error, where its run ends for another reason than the input's end.
 use crate::reading::Next;
-use libc::STDERR_FILENO;
+use pipe::complain;
 use text::put;
 use text::put_decimal;
 ghost use Prim.Native.Nat.{_+_, _≤_};
@@ -43,9 +43,4 @@ fn put_reason(refusal: u32, at: usize, line: &mut [u8]) -> usize
         return put(b"a header that no record has", at, line);
     }
     put(b"the input ends inside a record", at, line)
-}
-
-fn complain(program: &[u8], line: &[u8]) {
-    io::write_all(STDERR_FILENO, program);
-    io::write_all(STDERR_FILENO, line);
 }

@@ -4,10 +4,8 @@
 // Pairs are read by 256, so a block's reason is known as soon as its last pair is there. At the input's end an unfinished pair is dropped,
 // and what waits is flushed. A read or a write that fails is told of on standard error, and ends the run; after a failed read what was read
 // is still told of.
-mod input;
-
-use input::complain;
-use input::fill;
+use pipe::complain;
+use pipe::fill;
 use watch::Watch;
 ghost use mathlib.Core.Path.{_≡_};
 ghost use Prim.Native.Nat.{_≤_};
@@ -38,14 +36,14 @@ fn drive(
     let mut goes_on = true;
     let mut turns = u64::MAX;
     while turns > 0 && goes_on {
-        let held = fill(&mut block);
+        let held = fill(b"why", &mut block);
         let next = watch::pairs(watch, &block[..held], shadow, output, spectra, counts);
         watch = next;
         goes_on = next.is_written && held == 2048;
         turns -= 1;
     }
     if !finish(watch, shadow, output, spectra, counts) {
-        complain(b"why: a write failed\n");
+        complain(b"why", b": a write failed\n");
     }
 }
 

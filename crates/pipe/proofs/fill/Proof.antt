@@ -1,17 +1,17 @@
--- `pack::input::fill` is safe and ends: each turn holds a byte more at least, and no more than there is room for. Assumes nothing.
+-- `pipe::fill` is safe and ends: each turn holds a byte more at least, and no more than there is room for. Assumes nothing.
 use mathlib.Core.Path.{_≡_}
 use Prim.Native.Nat.{_-_, _≤_}
 use lib.ListN.{length}
 use borrow.Author.Needs.{needs}
-use Rattle.pack.proofs.input.fill.Statement.{statement}
-use Rattle.pack.proofs.input.fill.Tie as tie
+use Rattle.pipe.proofs.fill.Statement.{statement}
+use Rattle.pipe.proofs.fill.Tie as tie
 
 abbrev Inv-loop : tie.InvT-loop
-Inv-loop block₀ held₀ t5 block held =
+Inv-loop program block₀ held₀ t5 block held =
     (length block ≡ length block₀) × (held ≤ length block₀)
 
 abbrev μ-loop : tie.MeasureT-loop
-μ-loop block₀ held₀ t5 block held = length block₀ - held
+μ-loop program block₀ held₀ t5 block held = length block₀ - held
 
 pub fill-spec : {M : Type 1} → statement M
 fill-spec =
