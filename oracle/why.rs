@@ -1,16 +1,19 @@
-//! What `bin/why` says of the pairs on standard input, or with the word `records` of a capture of records, by the reasons of the Rust's own
-//! branches (oracle/rust). `oracle/lists` writes with it what the programs `why` and `why_records` have to say of their committed input.
+//! What the programs `why` and `why_records` are run on, the captures of why_captures.rs, and what they have to say of them, by the reasons
+//! of the Rust's own branches (oracle/rust). `oracle/lists` has it write the files: why WORD, where WORD is `pairs` or `records`, and then
+//! `stdin` or `stdout`. With WORD alone it says the same of what is on standard input.
 
 mod aspeyruni;
 #[allow(dead_code)] // the Rust's text, whole
 mod canceller;
 mod config;
+mod echo;
 mod error;
 #[allow(dead_code)]
 mod fft;
 mod house_detector;
 mod inputs;
 mod kinds;
+mod recipe;
 mod record;
 #[allow(dead_code)]
 mod rust_tau;
@@ -21,9 +24,11 @@ mod tau_calls;
 mod tau_lines;
 #[allow(dead_code)]
 mod tau_reference;
+mod why_captures;
 
+use aspeyruni::tau::reason;
 use record::{FLUSH, PAIRS, RESET};
-use std::io::Read;
+use std::io::{Read, Write};
 use tau_calls::{Reason, REASONS};
 use tau_reference::Continued;
 
@@ -34,47 +39,88 @@ const PAIR: usize = 8;
 struct Watch {
     engine: Continued,
     waiting: usize,
-    /// Where the stretch begins, and its reason.
-    stretch: Option<(usize, Reason)>,
-    blocks: usize,
-    counts: [usize; REASONS.len()],
+    /// Of each block.
+    reasons: Vec<Reason>,
+    /// Where the stretch begins that is not told of yet: at the next block, if there is none.
+    first: usize,
     text: String,
 }
 
 fn main() {
-    let mut bytes = Vec::new();
-    std::io::stdin().read_to_end(&mut bytes).unwrap();
-    let mut watch = Watch {
-        engine: Continued::created(4, true),
-        waiting: 0,
-        stretch: None,
-        blocks: 0,
-        counts: [0; REASONS.len()],
-        text: String::new(),
+    let words: Vec<String> = std::env::args().skip(1).collect();
+    let (capture, watched): (fn() -> Vec<u8>, fn(&[u8]) -> Watch) = match words[0].as_str() {
+        "pairs" => (why_captures::pairs, Watch::of_pairs),
+        "records" => (why_captures::records, Watch::of_records),
+        other => panic!("no input {other}"),
     };
-    match std::env::args().nth(1).as_deref() {
-        None => {
-            watch.pairs(&bytes);
-            watch.flush();
-        }
-        Some("records") => watch.records(&bytes),
-        Some(other) => panic!("no input {other}"),
+    let file = words.get(1).map(String::as_str);
+    let mut bytes = Vec::new();
+    if file.is_some() {
+        check_captures();
+        bytes = capture();
+    } else {
+        std::io::stdin().read_to_end(&mut bytes).unwrap();
     }
-    print!("{}", watch.summary());
+    let written = match file {
+        Some("stdin") => bytes,
+        Some("stdout") | None => watched(&bytes).summary().into_bytes(),
+        Some(other) => panic!("no file {other}"),
+    };
+    std::io::stdout().write_all(&written).unwrap();
+}
+
+/// Stops where a reason has come in neither capture, where no two moves in a row have one leak, and where none have two.
+fn check_captures() {
+    let captures = [
+        Watch::of_pairs(&why_captures::pairs()),
+        Watch::of_records(&why_captures::records()),
+    ];
+    let reasons = captures.map(|watch| watch.reasons);
+    for number in reason::FLUSH_BLOCK..=reason::MOVED {
+        let has_come = reasons.iter().flatten().any(|r| r.number() == number);
+        assert!(has_come, "no block: {}", REASONS[number as usize]);
+    }
+    let in_a_row = reasons.iter().flat_map(|reasons| reasons.windows(2));
+    let leaks = in_a_row.filter_map(|two| match two {
+        [Reason::Moved(a), Reason::Moved(b)] => Some([a, b]),
+        _ => None,
+    });
+    let (one, two): (Vec<_>, Vec<_>) = leaks.partition(|[a, b]| a == b);
+    assert!(!one.is_empty(), "no two moves in a row with one leak");
+    assert!(!two.is_empty(), "no two moves in a row with two leaks");
 }
 
 impl Watch {
-    fn records(&mut self, bytes: &[u8]) {
+    fn new() -> Watch {
+        Watch {
+            engine: Continued::created(4, true),
+            waiting: 0,
+            reasons: Vec::new(),
+            first: 0,
+            text: String::new(),
+        }
+    }
+
+    fn of_pairs(bytes: &[u8]) -> Watch {
+        let mut watch = Watch::new();
+        watch.pairs(bytes);
+        watch.flush();
+        watch
+    }
+
+    fn of_records(bytes: &[u8]) -> Watch {
+        let mut watch = Watch::new();
         let capture = record::records(bytes);
         assert_eq!(capture.refusal, None);
         for record in capture.records {
             match record.kind {
-                PAIRS => self.pairs(record.payload),
-                FLUSH => self.flush(),
-                RESET => self.reset(),
+                PAIRS => watch.pairs(record.payload),
+                FLUSH => watch.flush(),
+                RESET => watch.reset(),
                 _ => {}
             }
         }
+        watch
     }
 
     /// In pieces that fill one block at most, so that each block is told of.
@@ -110,39 +156,43 @@ impl Watch {
         if reason == Reason::NoBlock {
             return;
         }
-        if self.stretch.map(|(_, old)| old) != Some(reason) {
+        if self.reasons.last() != Some(&reason) {
             self.end();
-            self.stretch = Some((self.blocks, reason));
         }
-        self.counts[reason.number() as usize] += 1;
-        self.blocks += 1;
+        self.reasons.push(reason);
     }
 
     /// The line of the stretch, where there is one.
     fn end(&mut self) {
-        let Some((first, reason)) = self.stretch.take() else {
+        let Some(reason) = self.reasons[self.first..].last() else {
             return;
         };
-        let which = match self.blocks - first {
-            1 => format!("block {first}"),
-            _ => format!("blocks {first}-{}", self.blocks - 1),
+        let (first, last) = (self.first, self.reasons.len() - 1);
+        let which = if first == last {
+            format!("block {first}")
+        } else {
+            format!("blocks {first}-{last}")
         };
         let words = REASONS[reason.number() as usize];
         let leak = match reason {
-            Reason::Moved(leak) => format!(", leak {}", decimal(leak)),
+            Reason::Moved(leak) => format!(", leak {}", decimal(*leak)),
             _ => String::new(),
         };
         self.text += &format!("{which}: {words}{leak}\n");
+        self.first = self.reasons.len();
     }
 
     fn summary(mut self) -> String {
         self.end();
-        if self.blocks == 0 {
+        let blocks = self.reasons.len();
+        if blocks == 0 {
             return self.text + "0 blocks\n";
         }
-        let plural = if self.blocks == 1 { "" } else { "s" };
-        self.text += &format!("\n{} block{plural}\n", self.blocks);
-        for (words, count) in REASONS.iter().zip(self.counts) {
+        let plural = if blocks == 1 { "" } else { "s" };
+        self.text += &format!("\n{blocks} block{plural}\n");
+        for (number, words) in (0..).zip(REASONS) {
+            let of_number = self.reasons.iter().filter(|r| r.number() == number);
+            let count = of_number.count();
             if count > 0 {
                 self.text += &format!("{count} {words}\n");
             }
