@@ -15,12 +15,16 @@ use tau_state::lent::Rest;
 use tau_state::lent::rest_of;
 use tau_state::lent::whole;
 use tau_state::report::Last;
+use tau_state::report::Outcome;
 use tau_state::report::Report;
+use tau_state::report::outcome_of;
+use tau_state::report::reason_of;
 use tau_state::report::report_of;
 use tau_state::state::TauCanceller;
 ghost use mathlib.Core.Path.{_≡_};
 ghost use lib.ListN.{length};
 ghost use Rattle.tau_state.specs.Lent.{suppressorOf, wholeOf};
+ghost use Rattle.tau_state.specs.Report.{outcomeOf, reasonIn};
 ghost use Rattle.tau_frame.specs.Lent.{engineOf};
 ghost use Rattle.tau.specs.Calls.{processRefusal, flushRefusal, answerOf, processOf, flushOf};
 ghost use Rattle.tau.specs.Promises.{Create, Process, Flush, Reset};
@@ -40,14 +44,21 @@ pub struct Answer {
     pub report: Report,
 }
 
-fn answer_of(refusal: u32, delivered: usize, s: TauCanceller, last: Last) -> Answer
+fn answer_of(
+    refusal: u32,
+    delivered: usize,
+    s: TauCanceller,
+    outcome: Outcome,
+    last: Last,
+) -> Answer
+    requires { ⌜ outcome ≡ outcomeOf (reasonIn last) ⌝ }
     ensures { λ r. ⌜ r ≡ answerOf refusal delivered s last ⌝ }
 {
     Answer {
         refusal,
         delivered,
         state: s,
-        report: report_of(s.mic, last),
+        report: report_of(s.mic, outcome, last),
     }
 }
 
@@ -192,6 +203,8 @@ pub fn process(
         far,
         out,
     );
+    let last = framed.last;
+    let outcome = outcome_of(reason_of(last));
     let state = whole(
         s,
         framed.rest,
@@ -204,8 +217,7 @@ pub fn process(
         gain,
         window,
     );
-    let last = framed.last;
-    answer_of(refusal, framed.delivered, state, last)
+    answer_of(refusal, framed.delivered, state, outcome, last)
 }
 
 // A flush over the state taken apart. Refused, it changes nothing.
@@ -282,6 +294,8 @@ pub fn flush(
         spectra,
         out,
     );
+    let last = framed.last;
+    let outcome = outcome_of(reason_of(last));
     let state = whole(
         s,
         framed.rest,
@@ -294,6 +308,5 @@ pub fn flush(
         gain,
         window,
     );
-    let last = framed.last;
-    answer_of(refusal, framed.delivered, state, last)
+    answer_of(refusal, framed.delivered, state, outcome, last)
 }
