@@ -15,16 +15,12 @@ use tau_state::lent::Rest;
 use tau_state::lent::rest_of;
 use tau_state::lent::whole;
 use tau_state::report::Last;
-use tau_state::report::Outcome;
 use tau_state::report::Report;
-use tau_state::report::outcome_of;
-use tau_state::report::reason_of;
 use tau_state::report::report_of;
 use tau_state::state::TauCanceller;
 ghost use mathlib.Core.Path.{_≡_};
 ghost use lib.ListN.{length};
 ghost use Rattle.tau_state.specs.Lent.{suppressorOf, wholeOf};
-ghost use Rattle.tau_state.specs.Report.{outcomeOf, reasonIn};
 ghost use Rattle.tau_frame.specs.Lent.{engineOf};
 ghost use Rattle.tau.specs.Calls.{processRefusal, flushRefusal, answerOf, processOf, flushOf};
 ghost use Rattle.tau.specs.Promises.{Create, Process, Flush, Reset};
@@ -44,21 +40,14 @@ pub struct Answer {
     pub report: Report,
 }
 
-fn answer_of(
-    refusal: u32,
-    delivered: usize,
-    s: TauCanceller,
-    outcome: Outcome,
-    last: Last,
-) -> Answer
-    requires { ⌜ outcome ≡ outcomeOf (reasonIn last) ⌝ }
+fn answer_of(refusal: u32, delivered: usize, s: TauCanceller, last: Last) -> Answer
     ensures { λ r. ⌜ r ≡ answerOf refusal delivered s last ⌝ }
 {
     Answer {
         refusal,
         delivered,
         state: s,
-        report: report_of(s.mic, outcome, last),
+        report: report_of(s.mic, last),
     }
 }
 
@@ -203,8 +192,6 @@ pub fn process(
         far,
         out,
     );
-    let last = framed.last;
-    let outcome = outcome_of(reason_of(last));
     let state = whole(
         s,
         framed.rest,
@@ -217,7 +204,8 @@ pub fn process(
         gain,
         window,
     );
-    answer_of(refusal, framed.delivered, state, outcome, last)
+    let last = framed.last;
+    answer_of(refusal, framed.delivered, state, last)
 }
 
 // A flush over the state taken apart. Refused, it changes nothing.
@@ -294,8 +282,6 @@ pub fn flush(
         spectra,
         out,
     );
-    let last = framed.last;
-    let outcome = outcome_of(reason_of(last));
     let state = whole(
         s,
         framed.rest,
@@ -308,5 +294,6 @@ pub fn flush(
         gain,
         window,
     );
-    answer_of(refusal, framed.delivered, state, outcome, last)
+    let last = framed.last;
+    answer_of(refusal, framed.delivered, state, last)
 }

@@ -71,10 +71,7 @@ pub fn reason_of(last: Last) -> Reason
     }
 }
 
-// The outcome comes from the caller, who has it before the state is put together: a branch behind that would have the compiler copy the
-// state once more.
-pub fn report_of(m: Mic, outcome: Outcome, last: Last) -> Report
-    requires { ⌜ outcome ≡ outcomeOf (reasonIn last) ⌝ }
+pub fn report_of(m: Mic, last: Last) -> Report
     ensures { λ r. ⌜ r ≡ reportOf m last ⌝ }
 {
     let d = m.detector;
@@ -82,7 +79,7 @@ pub fn report_of(m: Mic, outcome: Outcome, last: Last) -> Report
         transfers: m.transfers,
         divergence_resets: m.divergence_resets,
         double_talk: d.double_talk,
-        outcome,
+        outcome: outcome_of(reason_of(last)),
         last,
     }
 }

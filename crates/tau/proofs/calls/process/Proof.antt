@@ -1,4 +1,3 @@
-use native.Mathlib.Omega.{arith}
 use borrow.Author.Needs.{needs}
 use Rattle.tau.proofs.calls.process.Statement.{statement}
 use Rattle.tau.proofs.calls.process.Tie as tie
@@ -14,11 +13,9 @@ process-spec =
     ((search needs, search needs), rw (apart .rest-of .ensures) (apart .before .before .before .before .before .before .before .before .before .process-refusal .ensures)))
     (λ c κs. search needs)
     (λ c κs. search needs)
-    (λ c κs. search needs)
-    (λ c κs. rw (c .before .outcome-of .ensures, c .before .before .reason-of .ensures))
-    (λ c. let lent = c .before .before .before .before .before .before .before .before .before .before .before .before in omega (arith, lent .process-lent .kept))
-    (λ c. let lent = c .before .before .before .before .before .before .before .before .before .before .before .before in omega (arith, lent .process-lent .kept))
-    (λ c. let lent = c .before .before .before .before .before .before .before .before .before .before .before .before in omega (arith, lent .process-lent .kept))
-    (λ c. let lent = c .before .before .before .before .before .before .before .before .before .before .before .before in omega (arith, lent .process-lent .kept))
-    (λ c. let lent = c .before .before .before .before .before .before .before .before .before .before .before .before in
+    (λ c. search needs)
+    (λ c. search needs)
+    (λ c. search needs)
+    (λ c. search needs)
+    (λ c. let lent = c .before .before .before .before .before .before .before .before .before .before in
     rw (c .answer-of .ensures, c .before .whole .ensures) (rw (lent .before .before .before .before .before .before .before .before .before .before .before .before .before .rest-of .ensures) at (lent .process-lent .ensures))))
