@@ -1,12 +1,14 @@
 // Tau. C has no enum with a value, so the report comes as numbers: what else there is, is as the functions below answer it.
-use tau::Answer;
 use tau::Started;
+use tau::Unreported;
 use tau_state::report::leak_of;
 use tau_state::report::number;
+use tau_state::report::outcome_of;
 use tau_state::report::reason_number;
 use tau_state::report::reason_of;
 use tau_state::state::TauCanceller;
 ghost use mathlib.Core.Path.{_≡_};
+ghost use Rattle.tau.specs.Calls.{reportedOf};
 ghost use Rattle.tau.specs.Promises.{Create, Reset};
 ghost use Rattle.capi.specs.Tau.{numbersOf};
 ghost use Rattle.capi.specs.Promises.{TauProcess, TauFlush};
@@ -26,22 +28,24 @@ pub struct TauAnswer {
     pub leak: f64,
 }
 
-fn numbers_of(a: Answer) -> TauAnswer
-    ensures { λ r. ⌜ r ≡ numbersOf a ⌝ }
+fn numbers_of(a: Unreported) -> TauAnswer
+    ensures { λ r. ⌜ r ≡ numbersOf (reportedOf a) ⌝ }
 {
     let state = a.state;
-    let report = a.report;
-    let outcome = report.outcome;
-    let last = report.last;
+    let mic = state.mic;
+    let detector = mic.detector;
+    let last = a.last;
+    let reason = reason_of(last);
+    let outcome = outcome_of(reason);
     TauAnswer {
         refusal: a.refusal,
         delivered: a.delivered,
         state,
-        transfers: report.transfers,
-        divergence_resets: report.divergence_resets,
-        double_talk: report.double_talk,
+        transfers: mic.transfers,
+        divergence_resets: mic.divergence_resets,
+        double_talk: detector.double_talk,
         outcome: number(outcome),
-        reason: reason_number(reason_of(last)),
+        reason: reason_number(reason),
         leak: leak_of(outcome),
     }
 }
@@ -71,7 +75,7 @@ pub extern "C" fn aspeyruni_tau_process(
 ) -> TauAnswer
     ensures { λ r. ⌜ TauProcess (record { state = s; shadow = now (shadow .entry); output = now (output .entry); spectra = now (spectra .entry) }) (now (near .entry)) (now (far .entry)) (now (out .entry)) r (now (shadow .exit)) (now (output .exit)) (now (spectra .exit)) (now (out .exit)) ⌝ }
 {
-    numbers_of(tau::process(s, shadow, output, spectra, near, far, out))
+    numbers_of(tau::process_unreported(s, shadow, output, spectra, near, far, out))
 }
 
 #[no_mangle]
@@ -84,7 +88,7 @@ pub extern "C" fn aspeyruni_tau_flush(
 ) -> TauAnswer
     ensures { λ r. ⌜ TauFlush (record { state = s; shadow = now (shadow .entry); output = now (output .entry); spectra = now (spectra .entry) }) (now (out .entry)) r (now (shadow .exit)) (now (output .exit)) (now (spectra .exit)) (now (out .exit)) ⌝ }
 {
-    numbers_of(tau::flush(s, shadow, output, spectra, out))
+    numbers_of(tau::flush_unreported(s, shadow, output, spectra, out))
 }
 
 #[no_mangle]

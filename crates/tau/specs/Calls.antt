@@ -13,6 +13,7 @@ use Rattle.tau_state.specs.declared.report.Last.{Last}
 use Rattle.tau_state.specs.declared.report.Last.the-variants.{NoneRan}
 use Rattle.tau.specs.declared.calls.Started.{Started}
 use Rattle.tau.specs.declared.calls.Answer.{Answer}
+use Rattle.tau.specs.declared.calls.Unreported.{Unreported}
 use Rattle.tau_fresh.specs.Fresh.{freshOf, emptyOf}
 unfoldable pub use Rattle.tau_fresh.specs.Refusals.{settingsOf, sizedOf, createRefusal, stateRefusal, pairsRefusal, processRefusal, flushRefusal}
 use Rattle.tau_frame.specs.Pairs.{Engine, Run, pairsOf, flushedOf}
@@ -59,6 +60,10 @@ resetOf e =
 -- the report is of the last block; "Where none ran, refusals included, the outcome is a fourth case .. and the rest is read from the state"
 abbrev pub answerOf : ℕ → ℕ → TauCanceller → Last → Answer
 answerOf refusal delivered s last = record { refusal = refusal; delivered = delivered; state = s; report = reportOf (s .mic) last }
+
+-- what an answer is before its report is made of it
+abbrev pub reportedOf : Unreported → Answer
+reportedOf u = answerOf (u .refusal) (u .delivered) (u .state) (u .last)
 
 -- "Each of 1 to 6 returns its number, zero delivered and the state as given, and writes nothing."
 abbrev pub refusedOf : ℕ → Engine → List Float → Called

@@ -22,7 +22,7 @@ ghost use mathlib.Core.Path.{_≡_};
 ghost use lib.ListN.{length};
 ghost use Rattle.tau_state.specs.Lent.{suppressorOf, wholeOf};
 ghost use Rattle.tau_frame.specs.Lent.{engineOf};
-ghost use Rattle.tau.specs.Calls.{processRefusal, flushRefusal, answerOf, processOf, flushOf};
+ghost use Rattle.tau.specs.Calls.{processRefusal, flushRefusal, answerOf, reportedOf, processOf, flushOf};
 ghost use Rattle.tau.specs.Promises.{Create, Process, Flush, Reset};
 
 // What creation and reset answer.
@@ -40,14 +40,25 @@ pub struct Answer {
     pub report: Report,
 }
 
-fn answer_of(refusal: u32, delivered: usize, s: TauCanceller, last: Last) -> Answer
-    ensures { λ r. ⌜ r ≡ answerOf refusal delivered s last ⌝ }
+// The same before its report is made of it. The host library makes the report as numbers: with the enums in between the compiler would copy
+// the state once more in each call.
+pub struct Unreported {
+    pub refusal: u32,
+    pub delivered: usize,
+    pub state: TauCanceller,
+    pub last: Last,
+}
+
+fn answer_of(u: Unreported) -> Answer
+    ensures { λ r. ⌜ r ≡ reportedOf u ⌝ }
 {
+    let state = u.state;
+    let last = u.last;
     Answer {
-        refusal,
-        delivered,
-        state: s,
-        report: report_of(s.mic, last),
+        refusal: u.refusal,
+        delivered: u.delivered,
+        state,
+        report: report_of(state.mic, last),
     }
 }
 
@@ -146,7 +157,8 @@ fn process_lent(
     )
 }
 
-pub fn process(
+// `process` without its report.
+pub fn process_unreported(
     s: TauCanceller,
     shadow: &mut [f64],
     output: &mut [f64],
@@ -154,8 +166,8 @@ pub fn process(
     near: &[f32],
     far: &[f32],
     out: &mut [f32],
-) -> Answer
-    ensures { λ r. ⌜ Process (record { state = s; shadow = now (shadow .entry); output = now (output .entry); spectra = now (spectra .entry) }) (now (near .entry)) (now (far .entry)) (now (out .entry)) r (now (shadow .exit)) (now (output .exit)) (now (spectra .exit)) (now (out .exit)) ⌝ }
+) -> Unreported
+    ensures { λ r. ⌜ Process (record { state = s; shadow = now (shadow .entry); output = now (output .entry); spectra = now (spectra .entry) }) (now (near .entry)) (now (far .entry)) (now (out .entry)) (reportedOf r) (now (shadow .exit)) (now (output .exit)) (now (spectra .exit)) (now (out .exit)) ⌝ }
 {
     let refusal = process_refusal(
         s,
@@ -205,7 +217,26 @@ pub fn process(
         window,
     );
     let last = framed.last;
-    answer_of(refusal, framed.delivered, state, last)
+    Unreported {
+        refusal,
+        delivered: framed.delivered,
+        state,
+        last,
+    }
+}
+
+pub fn process(
+    s: TauCanceller,
+    shadow: &mut [f64],
+    output: &mut [f64],
+    spectra: &mut [f64],
+    near: &[f32],
+    far: &[f32],
+    out: &mut [f32],
+) -> Answer
+    ensures { λ r. ⌜ Process (record { state = s; shadow = now (shadow .entry); output = now (output .entry); spectra = now (spectra .entry) }) (now (near .entry)) (now (far .entry)) (now (out .entry)) r (now (shadow .exit)) (now (output .exit)) (now (spectra .exit)) (now (out .exit)) ⌝ }
+{
+    answer_of(process_unreported(s, shadow, output, spectra, near, far, out))
 }
 
 // A flush over the state taken apart. Refused, it changes nothing.
@@ -248,14 +279,15 @@ fn flush_lent(
     )
 }
 
-pub fn flush(
+// `flush` without its report.
+pub fn flush_unreported(
     s: TauCanceller,
     shadow: &mut [f64],
     output: &mut [f64],
     spectra: &mut [f64],
     out: &mut [f32],
-) -> Answer
-    ensures { λ r. ⌜ Flush (record { state = s; shadow = now (shadow .entry); output = now (output .entry); spectra = now (spectra .entry) }) (now (out .entry)) r (now (shadow .exit)) (now (output .exit)) (now (spectra .exit)) (now (out .exit)) ⌝ }
+) -> Unreported
+    ensures { λ r. ⌜ Flush (record { state = s; shadow = now (shadow .entry); output = now (output .entry); spectra = now (spectra .entry) }) (now (out .entry)) (reportedOf r) (now (shadow .exit)) (now (output .exit)) (now (spectra .exit)) (now (out .exit)) ⌝ }
 {
     let refusal = flush_refusal(s, shadow.len(), output.len(), spectra.len(), out.len());
     let near_carry = s.near_carry;
@@ -295,5 +327,22 @@ pub fn flush(
         window,
     );
     let last = framed.last;
-    answer_of(refusal, framed.delivered, state, last)
+    Unreported {
+        refusal,
+        delivered: framed.delivered,
+        state,
+        last,
+    }
+}
+
+pub fn flush(
+    s: TauCanceller,
+    shadow: &mut [f64],
+    output: &mut [f64],
+    spectra: &mut [f64],
+    out: &mut [f32],
+) -> Answer
+    ensures { λ r. ⌜ Flush (record { state = s; shadow = now (shadow .entry); output = now (output .entry); spectra = now (spectra .entry) }) (now (out .entry)) r (now (shadow .exit)) (now (output .exit)) (now (spectra .exit)) (now (out .exit)) ⌝ }
+{
+    answer_of(flush_unreported(s, shadow, output, spectra, out))
 }

@@ -3,7 +3,10 @@ mod calls;
 
 pub use calls::Answer;
 pub use calls::Started;
+pub use calls::Unreported;
 pub use calls::create;
 pub use calls::flush;
+pub use calls::flush_unreported;
 pub use calls::process;
+pub use calls::process_unreported;
 pub use calls::reset;

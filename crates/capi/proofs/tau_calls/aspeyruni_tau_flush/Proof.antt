@@ -1,4 +1,4 @@
--- `capi::tau_calls::aspeyruni_tau_flush` is what `tau::flush` promises, with its answer as numbers. Assumes nothing.
+-- `capi::tau_calls::aspeyruni_tau_flush` is what `tau::flush_unreported` promises, with its answer as numbers. Assumes nothing.
 use mathlib.Core.Path.{ap}
 use Rattle.capi.specs.Tau.{hostedOf}
 use borrow.Author.Needs.{needs}
@@ -15,4 +15,4 @@ aspeyruni-tau-flush-spec =
     (λ c. search needs)
     (λ c. search needs)
     (λ c. search needs)
-    (λ c. rw (c .numbers-of .ensures) (ap hostedOf (c .before .before .before .before .before .before .before .before .before .flush .ensures))))
+    (λ c. rw (c .numbers-of .ensures) (ap hostedOf (c .before .before .before .before .before .before .before .before .before .flush-unreported .ensures))))

@@ -1,4 +1,4 @@
--- `capi::tau_calls::aspeyruni_tau_process` is what `tau::process` promises, with its answer as numbers. Assumes nothing.
+-- `capi::tau_calls::aspeyruni_tau_process` is what `tau::process_unreported` promises, with its answer as numbers. Assumes nothing.
 use mathlib.Core.Path.{ap}
 use Rattle.capi.specs.Tau.{hostedOf}
 use borrow.Author.Needs.{needs}
@@ -15,4 +15,4 @@ aspeyruni-tau-process-spec =
     (λ c. search needs)
     (λ c. search needs)
     (λ c. search needs)
-    (λ c. rw (c .numbers-of .ensures) (ap hostedOf (c .before .before .before .before .before .before .before .before .before .process .ensures))))
+    (λ c. rw (c .numbers-of .ensures) (ap hostedOf (c .before .before .before .before .before .before .before .before .before .process-unreported .ensures))))

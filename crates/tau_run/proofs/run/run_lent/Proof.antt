@@ -17,9 +17,7 @@ run-lent-spec =
     let p = start .pre in (at-recombination .recombination .ensures, (p .0 .0, p .0 .1, omega (arith, p .0, at-hear .hear .kept), at-hear .hear .ensures .1, p .1 .1, p .1 .2)))
     (λ c. search needs)
     (λ c. search needs)
-    (λ c. let at-run-mic = c .before .before .before .before .before .before in
-    let at-hear = at-run-mic .before .before .before .before .before .before .before .before .before .before .before .before .before .before .before in
-    omega (arith, at-hear .hear .kept))
+    (λ c. omega (arith, c .before .before .before .before .before .before .before .before .before .before .before .before .before .before .before .before .before .before .before .before .before .hear .kept))
     (λ c. let at-run-mic = c .before .before .before .before .before .before in
     let at-hear = at-run-mic .before .before .before .before .before .before .before .before .before .before .before .before .before .before .before in
     rw (← at-hear .hear .ensures .0, ← at-run-mic .run-mic .ensures)))
