@@ -41,13 +41,18 @@ put-leak-spec =
     (λ c κs. search needs)
     (λ c κs. search needs)
     (λ c. search needs)
-    (λ c. (search needs, whole (c .before .before .before .before .before .before .before .args .leak) (c .before .before .before .before .before .millionths .result) (c .before .before .before .before .before .millionths .ensures) (search needs) (c .before .before .before .put-decimal .ensures .1)))
+    (λ c. let at-whole = c .before .before .before in
+    let counted = at-whole .before .before in
+    (search needs, whole (counted .before .before .args .leak) (counted .millionths .result) (counted .millionths .ensures) (search needs) (at-whole .put-decimal .ensures .1)))
     (λ c. search needs)
     (λ c κs. search needs)
     (λ c κs. search needs)
     (λ c. search needs)
-    (λ c. (
+    (λ c. let at-point = c .before .before .before .before .before .before in
+    let left = at-point .before .before .before in
+    let at-whole = left .before .before .before in
+    let counted = at-whole .before .before in (
       search needs,
-      broken (c .before .before .before .before .before .before .before .before .before .before .before .before .before .before .before .before .args .leak) (c .before .before .before .before .before .before .before .before .before .before .before .before .before .before .millionths .result) _ (c .before .before .before .before .before .before .before .before .before .before .before .before .before .before .millionths .ensures) (c .before .before .before .before .before .before .before .before .before .if1 .left) (c .before .before .before .before .before .before .before .before .before .before .before .before .put-decimal .ensures .1)
-          (c .before .before .before .before .before .before .put .ensures .1) (c .before .before .put-places .ensures .1),
+      broken (counted .before .before .args .leak) (counted .millionths .result) _ (counted .millionths .ensures) (left .if1 .left) (at-whole .put-decimal .ensures .1)
+          (at-point .put .ensures .1) (c .before .before .put-places .ensures .1),
     )))
