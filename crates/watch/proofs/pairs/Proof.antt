@@ -39,14 +39,19 @@ pairs-spec =
     (λ c. search needs)
     (λ c. search needs)
     (λ c κs. search needs)
-    (λ c. omega (arith, c .before .before .before .before .before .before .before .before .before .before .before .before .before .before .lesser .ensures, c .before .before .before .before .before .before .before .before .before .before .before .before .before .before .before .before .before .before .before .loop .inv .0 .0 .1))
+    (λ c. let at-piece = c .before .before .before .before .before .before .before .before .before .before .before .before .before .before in
+    omega (arith, at-piece .lesser .ensures, at-piece .before .before .before .before .before .loop .inv .0 .0 .1))
     (λ c. let f = c .before .before .before .before .before .before .before .before .fed in
-    let v = c .before .before .before .before .before .before .before .before .before .before .before .before .before .before .before .before .before .before .before .loop .inv .0 in (
+    let at-piece = c .before .before .before .before .before .before .before .before .before .before .before .before .before .before in
+    let piece = at-piece .lesser in
+    let turn = at-piece .before .before .before .before in
+    let at-loop = turn .before in
+    let v = at-loop .loop .inv .0 in (
       (
-        (omega (arith, c .before .before .before .before .before .before .before .before .before .before .before .before .before .before .lesser .ensures), f .ensures .0),
+        (omega (arith, piece .ensures), f .ensures .0),
         (f .kept .1 .1 .0 ∙ v .1 .0, (f .kept .1 .1 .1 .0 ∙ v .1 .1 .0, (f .kept .1 .1 .1 .1 .0 ∙ v .1 .1 .1 .0, f .kept .1 .1 .1 .1 .1 .0 ∙ v .1 .1 .1 .1))),
       ),
-      next _ _ _ (c .before .before .before .before .before .before .before .before .before .before .before .before .before .before .before .before .before .before .before .before .before .before .before .before .before .args .bytes .now) (c .before .before .before .before .before .before .before .before .before .before .before .before .before .before .before .before .before .before .before .loop .at) (c .before .before .before .before .before .before .before .before .before .before .before .before .before .before .lesser .result) (c .before .before .before .before .before .before .before .before .before .before .before .before .before .before .before .before .before .before .loop-test .taken) (v .0 .1) (c .before .before .before .before .before .before .before .before .before .before .before .before .before .before .lesser .ensures) (f .ensures .1) (c .before .before .before .before .before .before .before .before .before .before .before .before .before .before .before .before .before .before .before .loop .inv .1),
+      next _ _ _ (at-loop .before .before .before .before .before .before .args .bytes .now) (at-loop .loop .at) (piece .result) (turn .loop-test .taken) (v .0 .1) (piece .ensures) (f .ensures .1) (at-loop .loop .inv .1),
     ))
     (λ c. search needs)
     (λ c. search needs)
