@@ -17,7 +17,9 @@ run-mic-spec =
     let at-filter = at-judge .before .before .before .before .before .before .before .before .before .before .before .before in
     let start = at-filter .before .before .before .before .before .before .before .before .before .before .before .before .before .before .before .before in
     let p = start .pre in let l = p .1 in (p .0, (omega (arith, l, at-filter .filter .kept, at-judge .judge .kept), l .2, l .3, l .4)))
-    (λ c κs. let start = c .before .before .before .before .before .before .before .before .before .before .before .before .before .before .before .before .before .before .before .before .before .before .before .before .before .before .before .before .before .before .before .before .before .before .before .before .before .before .before .before .before .before .before .before .before .before .before .before .before .before .before .before .before .before .before in
+    (λ c κs. let at-judge = c .before .before .before .before .before .before .before .before .before .before .before .before .before .before .before .before .before .before .before .before .before .before .before .before .before .before .before in
+    let at-filter = at-judge .before .before .before .before .before .before .before .before .before .before .before .before in
+    let start = at-filter .before .before .before .before .before .before .before .before .before .before .before .before .before .before .before .before in
     let p = start .pre in (p .0, p .1 .5))
     (λ c. let at-adapt-shadow = c .before .before .before .before .before .before .before .before .before .before .before .before .before .before .before .before .before .before in
     let at-judge = at-adapt-shadow .before .before .before .before .before .before .before .before .before .before .before .before .before .before .before in
