@@ -1,6 +1,6 @@
 -- "Process and flush also return a block report: transfers, resets, double talk, and an outcome, either no move, a rescue, or a move with
--- its leak as f64. .. Where none ran .. the outcome is a fourth case that says so and the rest is read from the state." Request K2 adds why.
--- Definitions only.
+-- its leak as f64. .. Where none ran .. the outcome is a fourth case that says so and the rest is read from the state." Request K2 adds why,
+-- and K8 how many samples went over. Definitions only.
 use Prim.Native.Nat.{ℕ}
 use lib.Ieee.{Float}
 use Rattle.tau_state.specs.Constants.{zero64}
@@ -59,11 +59,17 @@ unfoldable pub reasonIn : Last → Reason
 reasonIn NoneRan = NoBlock
 reasonIn (Did told) = told .reason
 
+-- K8: "The block report everywhere gains one number, 0 where no block ran."
+unfoldable pub oversIn : Last → ℕ
+oversIn NoneRan = 0
+oversIn (Did told) = told .overs
+
 unfoldable pub reportOf : Mic → Last → Report
 reportOf m last = record {
   transfers = m .transfers;
   «divergence_resets» = m .«divergence_resets»;
   «double_talk» = m .detector .«double_talk»;
   outcome = outcomeOf (reasonIn last);
+  overs = oversIn last;
   last = last;
 }

@@ -1,7 +1,7 @@
 // What a call says of the last block that it ran.
 use crate::state::Mic;
 ghost use mathlib.Core.Path.{_≡_};
-ghost use Rattle.tau_state.specs.Report.{numberOf, leakIn, reasonNumber, outcomeOf, reasonIn, reportOf};
+ghost use Rattle.tau_state.specs.Report.{numberOf, leakIn, reasonNumber, outcomeOf, reasonIn, oversIn, reportOf};
 
 // What a block did to the output filter: it did not run, no move, a rescue of the shadow, or a move with its leak.
 pub enum Outcome {
@@ -25,9 +25,11 @@ pub enum Reason {
     Moved(f64),
 }
 
-// What a block tells of itself, besides what it leaves in the state.
+// What a block tells of itself, besides what it leaves in the state: why its output filter stood still, and how many finite numbers became
+// infinite where its inverse transforms were narrowed.
 pub struct Told {
     pub reason: Reason,
+    pub overs: u32,
 }
 
 // The last block that a call ran.
@@ -36,12 +38,13 @@ pub enum Last {
     Did(Told),
 }
 
-// The counters and the verdict stand in the state; the outcome is that of the last block's reason.
+// The counters and the verdict stand in the state; the outcome is that of the last block's reason, and the overs are that block's too.
 pub struct Report {
     pub transfers: u64,
     pub divergence_resets: u64,
     pub double_talk: bool,
     pub outcome: Outcome,
+    pub overs: u32,
     pub last: Last,
 }
 
@@ -71,6 +74,15 @@ pub fn reason_of(last: Last) -> Reason
     }
 }
 
+pub fn overs_of(last: Last) -> u32
+    ensures { λ r. ⌜ r ≡ oversIn last ⌝ }
+{
+    match last {
+        Last::NoneRan => 0,
+        Last::Did(told) => told.overs,
+    }
+}
+
 pub fn report_of(m: Mic, last: Last) -> Report
     ensures { λ r. ⌜ r ≡ reportOf m last ⌝ }
 {
@@ -80,6 +92,7 @@ pub fn report_of(m: Mic, last: Last) -> Report
         divergence_resets: m.divergence_resets,
         double_talk: d.double_talk,
         outcome: outcome_of(reason_of(last)),
+        overs: overs_of(last),
         last,
     }
 }

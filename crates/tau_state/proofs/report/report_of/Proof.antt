@@ -10,4 +10,5 @@ report-of-spec =
     (tie.spec
     (λ c κs. search needs)
     (λ c κs. search needs)
-    (λ c. rw (c .outcome-of .ensures, c .before .reason-of .ensures)))
+    (λ c κs. search needs)
+    (λ c. rw (c .overs-of .ensures, c .before .outcome-of .ensures, c .before .before .reason-of .ensures)))
