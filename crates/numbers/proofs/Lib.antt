@@ -4,6 +4,7 @@ pub mod Values
 pub mod Narrowed
 pub mod Splitting
 pub mod Plain
+pub mod Overs
 pub mod Ordered
 pub mod Zeros
 pub mod Ranged

@@ -3,6 +3,7 @@
 --     plain-rounded, zero-rounded     what `rounded` makes of a plain number and of a zero is the narrowed number
 --     plain-number, plain-finite      a plain number is no NaN, and is narrowed to a finite number
 --     plain-size         which numbers are plain, by their size
+--     small-sized        a number whose square is below 2^254 is below 2^127
 --     castable           the narrowed number, still as an f64, is one that a cast to f32 loses nothing of
 use mathlib.Core.Path.{_≡_, refl, sym, ap, _∙_, subst}
 use mathlib.Core.Bool.{Bool, true, false, not, _&&_, true≢false}
@@ -49,7 +50,7 @@ before = (2 ^ 53 - 1) * 2 ^ 895
 abbrev last : ℕ
 last = (2 ^ 53 - 1) * 2 ^ 1148
 
-abbrev after : ℕ
+abbrev pub after : ℕ
 after = 2 ^ 52 * 2 ^ 1149
 
 first-is : at first ≡ lowSquare
@@ -231,9 +232,31 @@ plain-is x f = go (kind x f)
     go (Kind.top s e) = subst (λ (y : Float). plainSquares (mul binary64 y y) (mul binary64 y y) ≡ isPlain y) (sym e) (top-square s)
     go (Kind.no-number e) = subst (λ (y : Float). plainSquares (mul binary64 y y) (mul binary64 y y) ≡ isPlain y) (sym e) nan-square
 
+-- ---- the upper test alone
+
+top-square-high : (s : Bool) → lt (mul binary64 (inf s) (inf s)) highSquare ≡ false
+unfolding mul lt
+top-square-high true = refl
+top-square-high false = refl
+
+nan-square-high : lt (mul binary64 nan nan) highSquare ≡ false
+unfolding mul lt
+nan-square-high = refl
+
+pub small-sized : {G : Type 0} (x : Float) → T (fits binary64 x) → lt (mul binary64 x x) highSquare ≡ true → ((s : Bool) (a : ℕ) → HasValue x s a (2 ^ 1074) → a < after → G) → G
+small-sized {G} x f h g = go (kind x f)
+  where
+    other : (y : Float) → lt (mul binary64 y y) highSquare ≡ false → x ≡ y → ⊥
+    other y p e = true≢false (sym h ∙ ap (λ (z : Float). lt (mul binary64 z z) highSquare) e ∙ p)
+
+    go : Kind x → G
+    go (Kind.sized s a v l u p) = g s a v (ltb→lt a after (subst T (sym (sym (high-is x s a v u) ∙ h)) tt))
+    go (Kind.top s e) = absurd (other (inf s) (top-square-high s) e)
+    go (Kind.no-number e) = absurd (other nan nan-square-high e)
+
 -- ---- a plain number, by its digits
 
-value-finite : (y : Float) (s : Bool) (a c : ℕ) → HasValue y s a c → isFinite y ≡ true
+pub value-finite : (y : Float) (s : Bool) (a c : ℕ) → HasValue y s a c → isFinite y ≡ true
 unfolding isFinite
 value-finite nan s a c v = absurd v
 value-finite (inf t) s a c v = absurd v

@@ -150,7 +150,7 @@ units-bits s q k h g l = go (ltb (q * 2 ^ k) (2 ^ 277)) (ltb→lt (q * 2 ^ k) (2
 -- ---- M * 2 ^ E units of 2 ^ -1074, rounded
 
 -- a narrowed number by any fraction that it equals
-narrow-at : (x : Float) (s : Bool) (a c : ℕ) → 0 < c → HasValue x s a c → narrowOf x ≡ round binary32 s a c
+pub narrow-at : (x : Float) (s : Bool) (a c : ℕ) → 0 < c → HasValue x s a c → narrowOf x ≡ round binary32 s a c
 unfolding narrowOf
 narrow-at nan s a c C h = absurd h
 narrow-at (inf t) s a c C h = absurd h

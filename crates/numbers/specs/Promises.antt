@@ -5,9 +5,11 @@ use mathlib.Core.Path.{_≡_}
 use mathlib.Core.Bool.{Bool}
 use Prim.Native.Nat.{ℕ, min}
 use lib.Ieee.{Float, binary32, binary64, ofBits, toBits}
+use Rattle.numbers.specs.declared.narrowing.Kind.{Kind}
+use Rattle.numbers.specs.declared.narrowing.Narrowed.{Narrowed}
 use Rattle.numbers.specs.Order.{absOf, minOf, maxOf, clampOf}
 use Rattle.numbers.specs.Finite.{isFinite, finiteOrZero}
-use Rattle.numbers.specs.Narrowing.{narrowOf, isPlain, plainSquares, roundedOf}
+use Rattle.numbers.specs.Narrowing.{narrowOf, toldOf, kindNumber, isPlain, plainSquares, roundedOf}
 
 -- ---- sizes and the order
 
@@ -44,6 +46,12 @@ Narrow x r = r ≡ narrowOf x
 
 abbrev pub NarrowBits : Float → ℕ → Type 0
 NarrowBits x r = r ≡ toBits binary32 (narrowOf x)
+
+abbrev pub NarrowTold : Float → Narrowed → Type 0
+NarrowTold x r = r ≡ toldOf x
+
+abbrev pub KindNumber : Kind → ℕ → Type 0
+KindNumber kind r = r ≡ kindNumber kind
 
 abbrev pub IsPlain : Float → Bool → Type 0
 IsPlain x r = r ≡ isPlain x

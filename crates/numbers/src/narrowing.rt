@@ -1,13 +1,15 @@
 // From f32 to f64, which is exact, and from f64 to f32, which rounds once.
 use crate::bits::to_bits32;
+use crate::finite::is_finite;
+use crate::finite::is_finite32;
 ghost use mathlib.Core.Path.{_≡_};
 ghost use mathlib.Core.Bool.{not};
 ghost use Prim.Native.Nat.{_<_, _^_};
 ghost use lib.Dec.{T};
 ghost use lib.Ieee.{isNan};
 ghost use lib.Ieee.Nearest.{closest};
-ghost use Rattle.numbers.specs.Narrowing.{magOf};
-ghost use Rattle.numbers.specs.Promises.{Widen, Narrow, NarrowBits, IsPlain, PlainSquares, Rounded};
+ghost use Rattle.numbers.specs.Narrowing.{narrowOf, kindOf, magOf};
+ghost use Rattle.numbers.specs.Promises.{Widen, Narrow, NarrowBits, NarrowTold, KindNumber, IsPlain, PlainSquares, Rounded};
 
 // 2^-252 and 2^254, the squares of the ends of the range that has a short way.
 const LOW_SQUARE: f64 = 1.3817869688151111e-76;
@@ -16,6 +18,18 @@ const HIGH_SQUARE: f64 = 2.894802230932905e76;
 
 // 2^29 + 1: of the 53 digits of an f64 an f32 has 24, so 29 go.
 const SPLITTER: f64 = 536870913.0;
+
+// What narrowing did to a number: nothing, it rounded it, or it made a finite one infinite. A NaN or an infinity stays what it is.
+pub enum Kind {
+    Exact,
+    Rounded,
+    Over,
+}
+
+pub struct Narrowed {
+    pub value: f32,
+    pub kind: Kind,
+}
 
 // The same number. Nothing is rounded, so the logic has one value for both.
 pub fn widen(x: f32) -> f64
@@ -42,6 +56,45 @@ pub fn narrow_bits(x: f64) -> u32
     ensures { λ r. ⌜ NarrowBits x r ⌝ }
 {
     to_bits32(narrow(x))
+}
+
+// `narrow`, and what it did.
+pub fn narrow_told(x: f64) -> Narrowed
+    ensures { λ r. ⌜ NarrowTold x r ⌝ }
+{
+    let value = narrow(x);
+    Narrowed {
+        value,
+        kind: kind_of(x, value),
+    }
+}
+
+// The narrowed number is looked at first: where it is finite so was x.
+fn kind_of(x: f64, value: f32) -> Kind
+    requires { ⌜ value ≡ narrowOf x ⌝ }
+    ensures { λ r. ⌜ r ≡ kindOf x ⌝ }
+{
+    if is_finite32(value) {
+        if x == widen(value) {
+            return Kind::Exact;
+        }
+        return Kind::Rounded;
+    }
+    if is_finite(x) {
+        return Kind::Over;
+    }
+    Kind::Exact
+}
+
+// The kind as a number, for hosts that have no enum.
+pub fn kind_number(kind: Kind) -> u32
+    ensures { λ r. ⌜ KindNumber kind r ⌝ }
+{
+    match kind {
+        Kind::Exact => 0,
+        Kind::Rounded => 1,
+        Kind::Over => 2,
+    }
 }
 
 // Whether x is well inside the f32 normal range, so that it can go the short way, `rounded`: a size from 2^-126 up to 2^127.
