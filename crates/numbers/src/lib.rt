@@ -12,6 +12,7 @@ pub use bits::to_bits32;
 pub use finite::finite_or_zero;
 pub use finite::is_finite;
 pub use finite::is_finite32;
+pub use narrowing::HIGH_SQUARE;
 pub use narrowing::Kind;
 pub use narrowing::Narrowed;
 pub use narrowing::is_plain;

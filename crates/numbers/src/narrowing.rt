@@ -14,7 +14,7 @@ ghost use Rattle.numbers.specs.Promises.{Widen, Narrow, NarrowBits, Narr
 // 2^-252 and 2^254, the squares of the ends of the range that has a short way.
 const LOW_SQUARE: f64 = 1.3817869688151111e-76;
 
-const HIGH_SQUARE: f64 = 2.894802230932905e76;
+pub const HIGH_SQUARE: f64 = 2.894802230932905e76;
 
 // 2^29 + 1: of the 53 digits of an f64 an f32 has 24, so 29 go.
 const SPLITTER: f64 = 536870913.0;

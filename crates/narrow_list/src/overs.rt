@@ -1,0 +1,56 @@
+// How many numbers of a list would go over, where nobody needs the narrowed ones.
+use crate::over_one;
+use crate::squares;
+use crate::sum;
+use numbers::HIGH_SQUARE;
+use numbers::narrow_told;
+ghost use mathlib.Core.Path.{_≡_};
+ghost use mathlib.Core.Bool.{true};
+ghost use Prim.Native.Nat.{ℕ, _<_};
+ghost use lib.Ieee.{nan, lt};
+ghost use lib.ListN.{length, getD};
+ghost use Rattle.numbers.specs.Narrowing.{highSquare};
+ghost use Rattle.narrow_list.specs.Overs.{overCount, scaledBy};
+ghost use Rattle.narrow_list.specs.Promises.{OversScaled};
+ghost use Rattle.narrow_list.specs.Short.{squareOf};
+
+// Of the numbers of xs times the scale. Where all are below 2^127 and the scale is at most 1, none does: that is asked first, since it takes
+// no branch on any number.
+pub fn overs_scaled(xs: &[f64], scale: f64) -> usize
+    ensures { λ r. ⌜ OversScaled (now (xs .entry)) scale r ⌝ }
+{
+    let shrinks = (0.0 < scale) & (scale <= 1.0);
+    if shrinks & all_small(xs) {
+        return 0;
+    }
+    count_scaled(xs, scale)
+}
+
+// Whether all are below 2^127, for certain: groups of 32 by the sum of their squares, and no word on a list that has a part of a group.
+fn all_small(xs: &[f64]) -> bool
+    ensures { λ r. ⌜ (r ≡ true → (k : ℕ) → k < length (now (xs .entry)) → lt (squareOf (getD (now (xs .entry)) k nan)) highSquare ≡ true) ⌝ }
+{
+    let n = xs.len();
+    let mut small = true;
+    let mut at = 0usize;
+    while 32 <= n - at {
+        let q = squares(xs, at);
+        small = small & (sum(&q) < HIGH_SQUARE);
+        at += 32;
+    }
+    small & (at == n)
+}
+
+fn count_scaled(xs: &[f64], scale: f64) -> usize
+    ensures { λ r. ⌜ r ≡ overCount (scaledBy scale (now (xs .entry))) ⌝ }
+{
+    let mut overs = 0usize;
+    let mut k = 0usize;
+    while k < xs.len() {
+        let told = narrow_told(xs[k] * scale);
+        let kind = told.kind;
+        overs += over_one(kind);
+        k += 1;
+    }
+    overs
+}
