@@ -4,3 +4,4 @@ pub mod Sizes
 pub mod Ends
 pub mod Scaled
 pub mod Served
+pub mod Halves

@@ -1,18 +1,19 @@
--- The inverse's last steps in the core's scratch: the scaled points at its numbers 256, 257, .. are those of `runOf`, from any one on, and
--- narrowed they are that part of the samples (`narrowed-part`).
+-- The inverse's last steps in the core's scratch: the scaled points at its numbers 256, 257, .. are those that stand in it, from any one on;
+-- narrowed they are that part of the samples (`narrowed-part`), with its count (`counted-part`).
 -- Assumes nothing.
 use mathlib.Core.Path.{_≡_, _∙_, refl, sym, ap}
 use mathlib.Core.Bool.{true}
 use mathlib.Core.List.{List, [], _∷_, map}
 use mathlib.Core.Logic.{_⊎_, ⊎-elim}
 use Prim.Native.Nat.{ℕ, zero, suc, _+_, _*_, _<_, _≤_}
+use native.Mathlib.Nat.{le-of-eq}
 use native.Mathlib.Omega.{arith}
 use lib.ListN.{length, getD, set, take, drop, length-drop}
-use lib.Seq.{getD-set-other, getD-take, getD-drop, length-take-le, ext-getD}
+use lib.Seq.{getD-set-other, getD-take, getD-drop, length-take-le, take-all, ext-getD}
 use lib.Ieee.{Float, nan, binary64, ofBits}
 use Rattle.laws.specs.Loops.{iter, over}
 use Rattle.laws.specs.Readings.{over-mapped}
-use Rattle.laws.specs.Tables.{table2-at}
+use Rattle.laws.specs.Tables.{table2-at, length-table2}
 use Rattle.numbers.specs.Narrowing.{narrowOf}
 use Rattle.complex.specs.declared.Complex.{Complex}
 use Rattle.complex.specs.Complexes.{getC, putC, scaleC}
@@ -24,7 +25,8 @@ use Rattle.complex_fft.proofs.Stages.{last}
 use Rattle.self_sorting.specs.Quads.{getS}
 use Rattle.self_sorting.specs.Passes.{smallOf, loaded, passes}
 use Rattle.self_sorting.proofs.Sorting.{passes-long, inverse-run, parity}
-use Rattle.fft.specs.Scratch.{scaledFrom}
+use Rattle.narrow_list.specs.Overs.{overCount}
+use Rattle.fft.specs.Scratch.{scaledFrom, pointsIn}
 
 -- ---- a part of a list, each number by itself
 map-drop : {A B : Type 0} (f : A → B) (k : ℕ) (l : List A) → map f (drop k l) ≡ drop k (map f l)
@@ -75,28 +77,23 @@ scaling first z e (suc n) h =
       still = λ i u. split-still m n i c u ∙ a .still i u;
     }
 
-module _ (t l z₀ : List Float) (el : length l ≡ 512) (ez : length z₀ ≡ 1024) (first n : ℕ) (inside : first + n ≤ 256) where
-  abbrev z : List Float
-  z = passes t true (loaded l z₀)
-
+module _ (z : List Float) (ez : length z ≡ 1024) (first n : ℕ) (inside : first + n ≤ 256) where
   abbrev points : List Float
-  points = runOf t reversalTable true l
+  points = pointsIn z
 
   points-at : (i : ℕ) → i < 256 → getC points i ≡ smallOf z i
-  points-at i h =
-      let a = table2-at 256 (λ i. smallOf z i .re) (λ i. smallOf z i .im) i nan h in
-      rw (← inverse-run t l z₀ el ez, a .0, a .1)
+  points-at i h = let a = table2-at 256 (λ i. smallOf z i .re) (λ i. smallOf z i .im) i nan h in rw (a .0, a .1)
 
-  part-long : length (take (2 * n) (drop (2 * first) points)) ≡ 2 * n
+  pub part-long : length (take (2 * n) (drop (2 * first) points)) ≡ 2 * n
   part-long =
-      let long : length points ≡ 512 = run-long 512 t reversalTable true l el in
+      let long : length points ≡ 512 = length-table2 256 _ _ in
       length-take-le (2 * n) (drop (2 * first) points) (omega (arith, length-drop (2 * first) points, long))
 
   scaled-points : take (2 * n) (drop 512 (scaledFrom first n z)) ≡ take (2 * n) (drop (2 * first) points)
   unfolding scaledFrom
   scaled-points =
       let m = scaledFrom first n z in
-      let s = scaling first z (passes-long t true l z₀ ez) n inside in
+      let s = scaling first z ez n inside in
       let lm : length (take (2 * n) (drop 512 m)) ≡ 2 * n = length-take-le (2 * n) (drop 512 m) (omega (arith, length-drop 512 m, s .long)) in
       let same : (i : ℕ) → i < n → getC m (256 + i) ≡ getC points (first + i) = λ i h. s .done i h ∙ sym (points-at (first + i) (omega arith)) in
       let at : (k : ℕ) → k < 2 * n → getD m (512 + k) nan ≡ getD points (2 * first + k) nan = λ k h.
@@ -110,10 +107,16 @@ module _ (t l z₀ : List Float) (el : length l ≡ 512) (ez : length z₀ ≡ 1
       getD-take (2 * n) (drop 512 m) k nan h ∙ getD-drop 512 m k nan ∙ at k h
       ∙ sym (getD-take (2 * n) (drop (2 * first) points) k nan h ∙ getD-drop (2 * first) points k nan))
 
-  -- narrowing them writes that part of the inverse's samples
-  pub narrowed-part : (m xs out : List Float) → m ≡ scaledFrom first n z → xs ≡ take (2 * n) (drop 512 m) → length out ≡ 2 * n
-      → over (length xs) (λ k x. narrowOf (getD xs k nan)) out ≡ take (2 * n) (drop (2 * first) (map narrowOf points))
-  narrowed-part m xs out em ex eo =
-      let e : xs ≡ take (2 * n) (drop (2 * first) points) = ex ∙ ap (λ (k : List Float). take (2 * n) (drop 512 k)) em ∙ scaled-points in
-      let long : length xs ≡ length out = ap length e ∙ part-long ∙ sym eo in
-      rw long (over-mapped nan narrowOf xs out long) ∙ ap (map narrowOf) e ∙ part-narrowed narrowOf (2 * n) (2 * first) points
+  module _ (m xs out : List Float) (em : m ≡ scaledFrom first n z) (ex : xs ≡ take (2 * n) (drop 512 m)) (eo : length out ≡ 2 * n) where
+    part : xs ≡ take (2 * n) (drop (2 * first) points)
+    part = ex ∙ ap (λ (k : List Float). take (2 * n) (drop 512 k)) em ∙ scaled-points
+
+    long : length xs ≡ length out
+    long = ap length part ∙ part-long ∙ sym eo
+
+    -- narrowing them writes that part of the inverse's samples, and counts those that go over
+    pub narrowed-part : over (length xs) (λ k x. narrowOf (getD xs k nan)) out ≡ take (2 * n) (drop (2 * first) (map narrowOf points))
+    narrowed-part = rw long (over-mapped nan narrowOf xs out long) ∙ ap (map narrowOf) part ∙ part-narrowed narrowOf (2 * n) (2 * first) points
+
+    pub counted-part : overCount (take (length out) xs) ≡ overCount (take (2 * n) (drop (2 * first) points))
+    counted-part = ap overCount (take-all (length out) xs (le-of-eq long) ∙ part)

@@ -10,14 +10,14 @@ use lib.Ieee.{Float}
 use lib.ListN.{length}
 use Rattle.laws.specs.Choice.{pick-yes}
 use Rattle.complex_fft.specs.Reversal.{reversalTable}
-use Rattle.fft.specs.RealFft.{spectrumWith, samplesWith}
-use Rattle.fft.specs.Calls.{spectrumOf, samplesOf, forwardOf, inverseOf, lentOf, forwardWithOf, inverseWithOf, halfOfSamples, halfWithOf}
+use Rattle.fft.specs.RealFft.{spectrumWith, samplesWith, oversWith}
+use Rattle.fft.specs.Calls.{spectrumOf, samplesOf, oversOf, forwardOf, inverseOf, lentOf, forwardWithOf, inverseWithOf, halfOfSamples, halfWithOf}
 
 pub forward-served : (x out : List Float) → length x ≡ 512 → length out ≡ 514 → forwardOf x out ≡ record { answer = 0; out = spectrumOf x }
 unfolding forwardOf
 forward-served x out h k = sym (pick-yes _ _ _ (rw (eq-eqb _ _ h, eq-eqb _ _ k)) refl)
 
-pub inverse-served : (x out : List Float) → length x ≡ 514 → length out ≡ 512 → inverseOf x out ≡ record { answer = 0; out = samplesOf x }
+pub inverse-served : (x out : List Float) → length x ≡ 514 → length out ≡ 512 → inverseOf x out ≡ record { answer = 0; overs = oversOf x; out = samplesOf x }
 unfolding inverseOf
 inverse-served x out h k = sym (pick-yes _ _ _ (rw (eq-eqb _ _ h, eq-eqb _ _ k)) refl)
 
@@ -32,11 +32,11 @@ module _ (t s : List Float) (ht : length t ≡ 514) (hs : length s ≡ 1024) whe
   forward-with-served x out h k = sym (pick-yes _ _ _ (rw (lent, eq-eqb _ _ h, eq-eqb _ _ k)) refl)
 
   pub inverse-with-served : (x out : List Float) → length x ≡ 514 → length out ≡ 512
-      → inverseWithOf t s x out ≡ record { answer = 0; out = samplesWith t reversalTable x }
+      → inverseWithOf t s x out ≡ record { answer = 0; overs = oversWith t reversalTable x; out = samplesWith t reversalTable x }
   unfolding inverseWithOf
   inverse-with-served x out h k = sym (pick-yes _ _ _ (rw (lent, eq-eqb _ _ h, eq-eqb _ _ k)) refl)
 
   pub half-with-served : (x : List Float) (later : Bool) (out : List Float) → length x ≡ 514 → length out ≡ 256
-      → halfWithOf t s x later out ≡ record { answer = 0; out = halfOfSamples later (samplesWith t reversalTable x) }
+      → halfWithOf t s x later out ≡ record { answer = 0; overs = oversWith t reversalTable x; out = halfOfSamples later (samplesWith t reversalTable x) }
   unfolding halfWithOf
   half-with-served x later out h k = sym (pick-yes _ _ _ (rw (lent, eq-eqb _ _ h, eq-eqb _ _ k)) refl)

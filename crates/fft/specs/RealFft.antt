@@ -1,11 +1,12 @@
 -- `RealFft` for 512 samples and 257 bins, step by step in the source's order. t is the recombination table and r the reversal
--- table: the meaning is stated over any, and `spectrumOf`, `samplesOf` are at the two tables themselves.
+-- table: the meaning is stated over any, and `spectrumOf`, `samplesOf`, `oversOf` are at the two tables themselves.
 use Prim.Native.Nat.{ℕ, _-_, _%_}
 use mathlib.Core.List.{List, map}
 use mathlib.Core.Bool.{true, false}
 use lib.Ieee.{Float, binary64, add, sub, mul, neg, ofBits}
 use Rattle.laws.specs.Tables.{table2}
 use Rattle.numbers.specs.Narrowing.{narrowOf}
+use Rattle.narrow_list.specs.Overs.{overCount}
 use Rattle.complex.specs.declared.Complex.{Complex}
 use Rattle.complex.specs.Complexes.{newC, getC, addC, subC, mulC, conjC, scaleC}
 use Rattle.complex_fft.specs.ComplexFft.{runOf}
@@ -51,3 +52,7 @@ spectrumWith t r x = binsOf t (runOf t r false x)
 -- `RealFft::inverse`
 unfoldable pub samplesWith : List Float → List ℕ → List Float → List Float
 samplesWith t r x = map narrowOf (runOf t r true (halvesOf t x))
+
+-- of the numbers that it narrows. K8: "The real inverse then says how many of its 512 samples went over"
+unfoldable pub oversWith : List Float → List ℕ → List Float → ℕ
+oversWith t r x = overCount (runOf t r true (halvesOf t x))

@@ -10,14 +10,18 @@ use self_sorting::all_passes;
 use self_sorting::get_split;
 use self_sorting::put_split;
 ghost use mathlib.Core.Path.{_≡_};
-ghost use mathlib.Core.Bool.{false};
+ghost use mathlib.Core.Bool.{true, false};
+ghost use mathlib.Core.List.{map};
 ghost use Prim.Native.Nat.{_+_, _*_, _-_, _%_, _≤_};
 ghost use lib.ListN.{length, take, drop};
+ghost use Rattle.numbers.specs.Narrowing.{narrowOf};
+ghost use Rattle.narrow_list.specs.Overs.{overCount};
+ghost use Rattle.complex_fft.specs.ComplexFft.{runOf};
 ghost use Rattle.complex_fft.specs.Reversal.{reversalTable};
 ghost use Rattle.self_sorting.specs.Passes.{loaded, pointsOf, passes};
-ghost use Rattle.fft.specs.Calls.{lentOf};
-ghost use Rattle.fft.specs.RealFft.{binFrom, binOf, binsOf, halfOf, halvesOf, samplesWith};
-ghost use Rattle.fft.specs.Scratch.{scaledFrom};
+ghost use Rattle.fft.specs.Calls.{lentOf, halfOfSamples};
+ghost use Rattle.fft.specs.RealFft.{binFrom, binOf, binsOf, halfOf, halvesOf};
+ghost use Rattle.fft.specs.Scratch.{scaledFrom, pointsIn};
 ghost use Rattle.fft.specs.Promises.{Forward, Inverse, ForwardWith, InverseWith, InverseHalfWith, RefusedKeeps};
 
 // The even samples are the real parts and the odd ones the imaginary: they go straight into the core's scratch.
@@ -126,26 +130,56 @@ fn scale_points(z: &mut [f64], first: usize, n: usize)
     }
 }
 
-// The samples of n points from `first` on: only these are narrowed.
-fn samples_of(
-    z: &mut [f64],
-    table: &[f64],
-    spectrum: &[f64],
-    first: usize,
-    n: usize,
-    out: &mut [f32],
-)
+// The points of the inverse, not yet scaled, into the scratch's first half.
+fn load_points(z: &mut [f64], table: &[f64], spectrum: &[f64])
     requires { ⌜ length (now z) ≡ 1024 ⌝ }
     requires { ⌜ length (now table) ≡ 514 ⌝ }
     requires { ⌜ length (now spectrum) ≡ 514 ⌝ }
-    requires { ⌜ (first + n ≤ 256) × (length (now out) ≡ 2 * n) ⌝ }
-    ensures { λ _. ⌜ now (out .exit) ≡ take (2 * n) (drop (2 * first) (samplesWith (now (table .entry)) reversalTable (now (spectrum .entry)))) ⌝ }
+    ensures { λ _. ⌜ pointsIn (now (z .exit)) ≡ runOf (now (table .entry)) reversalTable true (halvesOf (now (table .entry)) (now (spectrum .entry))) ⌝ }
 {
     load_halves(spectrum, table, z);
     all_passes(z, table, true);
+}
+
+// The samples of n points from `first` on: only these are narrowed. How many of them went over.
+fn samples_at(z: &mut [f64], first: usize, n: usize, out: &mut [f32]) -> usize
+    requires { ⌜ length (now z) ≡ 1024 ⌝ }
+    requires { ⌜ (first + n ≤ 256) × (length (now out) ≡ 2 * n) ⌝ }
+    ensures { λ _. ⌜ now (out .exit) ≡ take (2 * n) (drop (2 * first) (map narrowOf (pointsIn (now (z .entry))))) ⌝ }
+    ensures { λ r. ⌜ r ≡ overCount (take (2 * n) (drop (2 * first) (pointsIn (now (z .entry))))) ⌝ }
+{
     scale_points(z, first, n);
     let end = 512 + 2 * n;
-    narrow_list::narrow_into(&z[512..end], out);
+    narrow_list::narrow_into(&z[512..end], out)
+}
+
+// How many samples of n points from `first` on would go over, where nobody needs them: they are looked at where they stand.
+fn overs_at(z: &[f64], first: usize, n: usize) -> usize
+    requires { ⌜ length (now z) ≡ 1024 ⌝ }
+    requires { ⌜ first + n ≤ 256 ⌝ }
+    ensures { λ r. ⌜ r ≡ overCount (take (2 * n) (drop (2 * first) (pointsIn (now (z .entry))))) ⌝ }
+{
+    let end = first + n;
+    let middle = 256 + first;
+    let last = middle + n;
+    let re = narrow_list::overs_scaled(&z[first..end], 0.00390625);
+    let im = narrow_list::overs_scaled(&z[middle..last], 0.00390625);
+    re + im
+}
+
+// The first or the later half of the samples. How many of all went over.
+fn half_at(z: &mut [f64], later: bool, half: &mut [f32]) -> usize
+    requires { ⌜ length (now z) ≡ 1024 ⌝ }
+    requires { ⌜ length (now half) ≡ 256 ⌝ }
+    ensures { λ _. ⌜ now (half .exit) ≡ halfOfSamples later (map narrowOf (pointsIn (now (z .entry)))) ⌝ }
+    ensures { λ r. ⌜ r ≡ overCount (pointsIn (now (z .entry))) ⌝ }
+{
+    if later {
+        let dropped = overs_at(z, 0, 128);
+        return dropped + samples_at(z, 128, 128, half);
+    }
+    let dropped = overs_at(z, 128, 128);
+    dropped + samples_at(z, 0, 128, half)
 }
 
 // 512 samples to 257 bins. 0, or 2 with nothing written where a length is wrong.
@@ -166,21 +200,41 @@ pub fn forward(input: &[f32], out: &mut [f64]) -> u32
     DONE
 }
 
-// 257 bins to 512 samples. 0, or 2 with nothing written where a length is wrong.
-pub fn inverse(spectrum: &[f64], out: &mut [f32]) -> u32
+// What an inverse answers: 0, or 2 with nothing written where a length is wrong; and how many of its 512 samples went over.
+#[repr(C)]
+pub struct Inverted {
+    pub refusal: u32,
+    pub overs: usize,
+}
+
+fn refused() -> Inverted
+    ensures { λ r. ⌜ r ≡ record { refusal = 2; overs = 0 } ⌝ }
+{
+    Inverted {
+        refusal: WRONG_LENGTH,
+        overs: 0,
+    }
+}
+
+// 257 bins to 512 samples.
+pub fn inverse(spectrum: &[f64], out: &mut [f32]) -> Inverted
     ensures { λ r. ⌜ Inverse (now (spectrum .entry)) (now (out .entry)) r (now (out .exit)) ⌝ }
 {
     if spectrum.len() != 514 {
-        return WRONG_LENGTH;
+        return refused();
     }
     if out.len() != 512 {
-        return WRONG_LENGTH;
+        return refused();
     }
     let table = trig::recombination();
     let zero = Complex::ZERO;
     let mut scratch = [zero.re; 1024];
-    samples_of(&mut scratch, &table, spectrum, 0, 256, out);
-    DONE
+    load_points(&mut scratch, &table, spectrum);
+    let overs = samples_at(&mut scratch, 0, 256, out);
+    Inverted {
+        refusal: DONE,
+        overs,
+    }
 }
 
 // Whether the table has the needed length and the scratch 1,024 numbers, two halves for the core to work between.
@@ -213,47 +267,56 @@ pub fn forward_with(table: &[f64], scratch: &mut [f64], samples: &[f32], bins: &
 }
 
 // `inverse` over a lent table and scratch.
-pub fn inverse_with(table: &[f64], scratch: &mut [f64], source: &[f64], target: &mut [f32]) -> u32
+pub fn inverse_with(
+    table: &[f64],
+    scratch: &mut [f64],
+    source: &[f64],
+    target: &mut [f32],
+) -> Inverted
     ensures { λ r. ⌜ InverseWith (now (table .entry)) (now (scratch .entry)) (now (source .entry)) (now (target .entry)) r (now (target .exit)) ⌝ }
-    ensures { λ r. ⌜ RefusedKeeps (now (scratch .entry)) r (now (scratch .exit)) ⌝ }
+    ensures { λ r. ⌜ RefusedKeeps (now (scratch .entry)) (r .refusal) (now (scratch .exit)) ⌝ }
 {
     if !lent(table, scratch) {
-        return WRONG_LENGTH;
+        return refused();
     }
     if source.len() != 514 {
-        return WRONG_LENGTH;
+        return refused();
     }
     if target.len() != 512 {
-        return WRONG_LENGTH;
+        return refused();
     }
-    samples_of(scratch, table, source, 0, 256, target);
-    DONE
+    load_points(scratch, table, source);
+    let overs = samples_at(scratch, 0, 256, target);
+    Inverted {
+        refusal: DONE,
+        overs,
+    }
 }
 
-// The first or the later 256 samples of the inverse, over a lent table and scratch: who needs one half pays for one.
+// The first or the later 256 samples of the inverse, over a lent table and scratch: who needs one half pays for one. All 512 are counted.
 pub fn inverse_half_with(
     table: &[f64],
     scratch: &mut [f64],
     source: &[f64],
     later: bool,
     half: &mut [f32],
-) -> u32
+) -> Inverted
     ensures { λ r. ⌜ InverseHalfWith (now (table .entry)) (now (scratch .entry)) (now (source .entry)) later (now (half .entry)) r (now (half .exit)) ⌝ }
-    ensures { λ r. ⌜ RefusedKeeps (now (scratch .entry)) r (now (scratch .exit)) ⌝ }
+    ensures { λ r. ⌜ RefusedKeeps (now (scratch .entry)) (r .refusal) (now (scratch .exit)) ⌝ }
 {
     if !lent(table, scratch) {
-        return WRONG_LENGTH;
+        return refused();
     }
     if source.len() != 514 {
-        return WRONG_LENGTH;
+        return refused();
     }
     if half.len() != 256 {
-        return WRONG_LENGTH;
+        return refused();
     }
-    if later {
-        samples_of(scratch, table, source, 128, 128, half);
-    } else {
-        samples_of(scratch, table, source, 0, 128, half);
+    load_points(scratch, table, source);
+    let overs = half_at(scratch, later, half);
+    Inverted {
+        refusal: DONE,
+        overs,
     }
-    DONE
 }
