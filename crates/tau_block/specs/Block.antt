@@ -3,7 +3,7 @@
 -- that steps 2 and 3 leave. Definitions only.
 use mathlib.Core.Bool.{Bool, not, _&&_}
 use mathlib.Core.List.{List}
-use Prim.Native.Nat.{ℕ}
+use Prim.Native.Nat.{ℕ, _+_}
 use lib.Ieee.{Float}
 use Rattle.tau_state.specs.Sums.{energyOf}
 use Rattle.tau_state.specs.declared.state.TauCanceller.{TauCanceller}
@@ -101,7 +101,11 @@ listen flagged playing b microphone =
         output = guard .output;
       };
       block = guard .block;
-      told = record { reason = comparison .reason };
+      told = record {
+        reason = comparison .reason;
+        -- K8: "the block report carries the sum over the block's inverses, with or without the suppressor"
+        overs = shadow .overs + output .overs + update .overs + suppression .overs;
+      };
     }
 
 -- the engine whole: its state and the three lent buffers, the shadow's weights, the output's and the far spectra

@@ -2,7 +2,7 @@
 -- the theorems on a block go by these; proofs/Composed.antt has that `grouped` is `listen`. Definitions only.
 use mathlib.Core.Bool.{Bool, not, _&&_}
 use mathlib.Core.List.{List}
-use Prim.Native.Nat.{ℕ}
+use Prim.Native.Nat.{ℕ, _+_}
 use lib.Ieee.{Float}
 use Rattle.tau_state.specs.Sums.{energyOf}
 use Rattle.tau_state.specs.declared.state.Mic.{Mic}
@@ -25,6 +25,7 @@ pub record Filtered : Type 0 where
   pub estimate : List Float
   pub shadowError : List Float
   pub shadowDiverged : Bool
+  pub shadowOvers : ℕ
   pub output : Estimated
 
 unfoldable pub filtered : Ring → List Float → Mic → List Float → List Float → Filtered
@@ -34,6 +35,7 @@ filtered ring near mic shadow output =
       estimate = first .estimate;
       shadowError = first .error;
       shadowDiverged = first .diverged;
+      shadowOvers = first .overs;
       output = estimated ring near (first .paths) (mic .suppressor) (first .resets) (first .shadow) output;
     }
 
@@ -64,16 +66,17 @@ compares adapt active near energy valid f mic =
 pub record Delivered : Type 0 where
   pub guarded : Guarded
   pub powers : Powers
+  pub overs : ℕ
 
 unfoldable pub delivered : Bool → Bool → List Float → Float → ℕ → Estimated → Mic → Paths → ℕ → List Float → Delivered
 delivered runs protect near energy valid estimate mic paths resets output =
     let suppression = suppressed runs protect (estimate .error) (estimate .spectrum) (estimate .suppressor) in
     let after = guarded near energy valid (mic .guard) (suppression .suppressor) paths resets (suppression .block) output in
-    record { guarded = after; powers = hosted near (after .block) valid (mic .powers) }
+    record { guarded = after; powers = hosted near (after .block) valid (mic .powers); overs = suppression .overs }
 
 -- what they leave of the microphone, the block, and what it tells
-abbrev pub gathered : Judgement → Updated → Delivered → Listened
-gathered j u g = record {
+abbrev pub gathered : Filtered → Judgement → Updated → Delivered → Listened
+gathered f j u g = record {
   microphone = record {
     mic = record {
       detector = j .detector;
@@ -89,7 +92,7 @@ gathered j u g = record {
     output = g .guarded .output;
   };
   block = g .guarded .block;
-  told = record { reason = j .comparison .reason };
+  told = record { reason = j .comparison .reason; overs = f .shadowOvers + f .output .overs + u .overs + g .overs };
 }
 
 -- 6. "unless flushing, diverged in 2 or 3, or rescued"
@@ -110,4 +113,4 @@ grouped flagged playing b microphone =
     let j = compares (b .adapt) (playing .active) near energy (b .valid) f mic in
     let u = updated (updates (b .adapt) f j) (playing .ring) (f .shadowError) (j .detector .«step_scale») (mic .«far_power_mean») (j .comparison .paths) (f .output .resets) (j .comparison .shadow) in
     let g = delivered (suppresses flagged (playing .sounded) f) (j .detector .«protect_output») near energy (b .valid) (f .output) mic (u .paths) (u .resets) (j .comparison .output) in
-    gathered j u g
+    gathered f j u g

@@ -46,6 +46,7 @@ pub struct DeliveredRest {
     pub paths: Paths,
     pub divergence_resets: u64,
     pub powers: Powers,
+    pub overs: u32,
 }
 
 pub struct ListenedRest {
@@ -75,7 +76,7 @@ fn filter(
 ) -> BothChecked
     requires { ⌜ now table ≡ recombination ⌝ }
     requires { ⌜ (length (now shadow) ≡ 514 * parts) × (length (now output) ≡ 514 * parts) × (length (now spectra) ≡ 514 * parts) × (head < parts) × (parts ≤ 32) ⌝ }
-    ensures { λ r. ⌜ filteredOf (r .shadow .diverged) (r .output) (now (estimate .exit)) (now («shadow_error» .exit)) (suppressorOf (now («echo_power» .exit)) (now («error_power» .exit)) (now (gain .exit)) (now (window .entry))) (now (bins .exit)) (now (block .exit)) (now (shadow .exit)) (now (output .exit)) ≡ filtered (ringOf parts head (now (spectra .entry))) (now (near .entry)) (micOf mic [] (suppressorOf (now («echo_power» .entry)) (now («error_power» .entry)) (now (gain .entry)) (now (window .entry)))) (now (shadow .entry)) (now (output .entry)) ⌝ }
+    ensures { λ r. ⌜ filteredOf (r .shadow) (r .output) (now (estimate .exit)) (now («shadow_error» .exit)) (suppressorOf (now («echo_power» .exit)) (now («error_power» .exit)) (now (gain .exit)) (now (window .entry))) (now (bins .exit)) (now (block .exit)) (now (shadow .exit)) (now (output .exit)) ≡ filtered (ringOf parts head (now (spectra .entry))) (now (near .entry)) (micOf mic [] (suppressorOf (now («echo_power» .entry)) (now («error_power» .entry)) (now (gain .entry)) (now (window .entry)))) (now (shadow .entry)) (now (output .entry)) ⌝ }
 {
     let paths = mic.paths;
     let resets = mic.divergence_resets;
@@ -136,7 +137,7 @@ fn judge(
 ) -> Judged
     requires { ⌜ valid ≤ 256 ⌝ }
     requires { ⌜ length (now shadow) ≡ length (now output) ⌝ }
-    ensures { λ r. ⌜ judgementOf r (now (shadow .exit)) (now (output .exit)) ≡ compares adapt active (now (near .entry)) «near_energy» valid (filteredOf (checked .shadow .diverged) (checked .output) (now (estimate .entry)) (now («shadow_error» .entry)) noSuppressor [] (now (error .entry)) (now (shadow .entry)) (now (output .entry))) (bare mic) ⌝ }
+    ensures { λ r. ⌜ judgementOf r (now (shadow .exit)) (now (output .exit)) ≡ compares adapt active (now (near .entry)) «near_energy» valid (filteredOf (checked .shadow) (checked .output) (now (estimate .entry)) (now («shadow_error» .entry)) noSuppressor [] (now (error .entry)) (now (shadow .entry)) (now (output .entry))) (bare mic) ⌝ }
 {
     let output_checked = checked.output;
     let detector = double_talk_block(mic.detector, active, near_energy, near, estimate, valid);
@@ -188,7 +189,7 @@ fn deliver(
     requires { ⌜ valid ≤ 256 ⌝ }
     ensures { λ r. ⌜ deliveredOf r (suppressorOf (now («echo_power» .exit)) (now («error_power» .exit)) (now (gain .exit)) (now (window .exit))) (now (block .exit)) (now (output .exit)) ≡ delivered on protect (now (near .entry)) «near_energy» valid (estimatedOf checked (suppressorOf (now («echo_power» .entry)) (now («error_power» .entry)) (now (gain .entry)) (now (window .entry))) (now (bins .entry)) (now (block .entry)) [] []) (bare mic) paths resets (now (output .entry)) ⌝ }
 {
-    suppress(
+    let overs = suppress(
         table,
         scratch,
         on,
@@ -223,6 +224,7 @@ fn deliver(
         paths: new_paths,
         divergence_resets: guarded.divergence_resets,
         powers,
+        overs,
     }
 }
 
@@ -340,6 +342,7 @@ pub fn run_mic(
     let guard = delivered.guard;
     let powers = delivered.powers;
     let reason = compared.reason;
+    let overs = shadow_checked.overs + output_checked.overs + updated.overs + delivered.overs;
     ListenedRest {
         mic: MicRest {
             detector,
@@ -349,6 +352,6 @@ pub fn run_mic(
             transfers: compared.transfers,
             divergence_resets: delivered.divergence_resets,
         },
-        told: Told { reason },
+        told: Told { reason, overs },
     }
 }

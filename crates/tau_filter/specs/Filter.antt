@@ -11,7 +11,7 @@ use Rattle.laws.specs.Parts.{part}
 use Rattle.numbers.specs.Finite.{isFinite}
 use Rattle.complex.specs.declared.Complex.{Complex}
 use Rattle.complex.specs.Complexes.{newC, getC, addC, mulC}
-use Rattle.fft.specs.Calls.{samplesOf}
+use Rattle.fft.specs.Calls.{samplesOf, oversOf}
 use Rattle.tau_state.specs.Constants.{zero32, zero64}
 use Rattle.tau_state.specs.declared.state.Paths.{Paths}
 use Rattle.tau_state.specs.declared.state.Suppressor.{Suppressor}
@@ -38,6 +38,10 @@ echoOf weights ring = echoTo weights ring (ring .partitions)
 abbrev pub blockEstimate : List Float → Ring → List Float
 blockEstimate weights ring = latter (samplesOf (echoOf weights ring))
 
+-- how many of that inverse's samples went over, the half that is dropped too (K8)
+abbrev pub estimateOvers : List Float → Ring → ℕ
+estimateOvers weights ring = oversOf (echoOf weights ring)
+
 -- near less the estimate, an f32 subtraction
 abbrev pub errorAt : List Float → List Float → ℕ → Float
 errorAt near estimate k = sub binary32 (getD near k nan) (getD estimate k nan)
@@ -57,12 +61,14 @@ pub record Shadowed : Type 0 where
   pub estimate : List Float
   pub error : List Float
   pub shadow : List Float
+  pub overs : ℕ
 
 -- 2. "Shadow estimate, partition then bin; last 256 samples of the inverse. A non-finite error clears the shadow (`diverge_shadow`), sets
 -- its estimate to zero and its error to near."
 unfoldable pub shadowed : Ring → List Float → Paths → ℕ → List Float → Shadowed
 shadowed ring near paths resets shadow =
     let estimate = blockEstimate shadow ring in
+    let overs = estimateOvers shadow ring in
     let clear = divergeShadow paths resets shadow in
     pick (badTo near estimate 256)
     (record {
@@ -72,8 +78,17 @@ shadowed ring near paths resets shadow =
       estimate = replicate 256 zero32;
       error = near;
       shadow = clear .shadow;
+      overs = overs;
     })
-    (record { paths = paths; resets = resets; diverged = false; estimate = estimate; error = errorsOf near estimate; shadow = shadow })
+    (record {
+      paths = paths;
+      resets = resets;
+      diverged = false;
+      estimate = estimate;
+      error = errorsOf near estimate;
+      shadow = shadow;
+      overs = overs;
+    })
 
 -- what step 3 leaves
 pub record Estimated : Type 0 where
@@ -85,12 +100,14 @@ pub record Estimated : Type 0 where
   pub error : List Float
   pub shadow : List Float
   pub output : List Float
+  pub overs : ℕ
 
 -- 3. "Output estimate the same way. A non-finite error clears both filters (`diverge`), and the error block is 0.0." The suppressor
 -- reads the estimate's spectrum.
 unfoldable pub estimated : Ring → List Float → Paths → Suppressor → ℕ → List Float → List Float → Estimated
 estimated ring near paths suppressor resets shadow output =
     let estimate = blockEstimate output ring in
+    let overs = estimateOvers output ring in
     let clear = divergeOf paths suppressor resets shadow output in
     pick (badTo near estimate 256)
     (record {
@@ -102,6 +119,7 @@ estimated ring near paths suppressor resets shadow output =
       error = replicate 256 zero32;
       shadow = clear .shadow;
       output = clear .output;
+      overs = overs;
     })
     (record {
       paths = paths;
@@ -112,4 +130,5 @@ estimated ring near paths suppressor resets shadow output =
       error = errorsOf near estimate;
       shadow = shadow;
       output = output;
+      overs = overs;
     })

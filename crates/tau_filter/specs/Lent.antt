@@ -14,6 +14,7 @@ shadowedOf r estimate error shadow = record {
   estimate = estimate;
   error = error;
   shadow = shadow;
+  overs = r .overs;
 }
 
 -- step 3: the suppressor, the estimate's spectrum, the error and both filters' weights
@@ -27,4 +28,5 @@ estimatedOf r suppressor spectrum error shadow output = record {
   error = error;
   shadow = shadow;
   output = output;
+  overs = r .overs;
 }

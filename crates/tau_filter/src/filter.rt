@@ -68,6 +68,7 @@ pub struct Checked {
     pub paths: Paths,
     pub divergence_resets: u64,
     pub diverged: bool,
+    pub overs: u32,
 }
 
 pub fn shadow_estimate(
@@ -89,7 +90,7 @@ pub fn shadow_estimate(
     ensures { λ r. ⌜ shadowedOf r (now (estimate .exit)) (now (error .exit)) (now (shadow .exit)) ≡ shadowed (ringOf parts head (now (xs .entry))) (now (near .entry)) p resets (now (shadow .entry)) ⌝ }
 {
     echo(shadow, xs, head, parts, bins);
-    later_half(table, scratch, bins, estimate);
+    let overs = later_half(table, scratch, bins, estimate);
     let bad = errors(near, estimate, error);
     if bad {
         let c = diverge_shadow(p, resets, shadow);
@@ -100,12 +101,14 @@ pub fn shadow_estimate(
             paths: q,
             divergence_resets: c.divergence_resets,
             diverged: true,
+            overs,
         };
     }
     Checked {
         paths: p,
         divergence_resets: resets,
         diverged: false,
+        overs,
     }
 }
 
@@ -133,7 +136,7 @@ pub fn output_estimate(
 {
     echo(output, xs, head, parts, bins);
     let mut estimate = [0.0f32; 256];
-    later_half(table, scratch, bins, &mut estimate);
+    let overs = later_half(table, scratch, bins, &mut estimate);
     let bad = errors(near, &estimate, error);
     if bad {
         let c = diverge(p, resets, echoes, errs, gain, window, shadow, output);
@@ -143,11 +146,13 @@ pub fn output_estimate(
             paths: q,
             divergence_resets: c.divergence_resets,
             diverged: true,
+            overs,
         };
     }
     Checked {
         paths: p,
         divergence_resets: resets,
         diverged: false,
+        overs,
     }
 }

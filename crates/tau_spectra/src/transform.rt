@@ -1,8 +1,9 @@
-// The transform over its table and a scratch, which a block makes once and lends to each of its transforms; and a window that slides.
+// The transform over its table and a scratch, which a block makes once and lends to each of its transforms; and a window that slides. An
+// inverse gives one half of its samples, and how many of all 512 went over.
 ghost use mathlib.Core.Path.{_≡_};
 ghost use lib.ListN.{length, take};
 ghost use Rattle.trig.specs.Tables.{recombination};
-ghost use Rattle.fft.specs.Calls.{spectrumOf, samplesOf};
+ghost use Rattle.fft.specs.Calls.{spectrumOf, samplesOf, oversOf};
 ghost use Rattle.tau_spectra.specs.Windows.{slid};
 ghost use Rattle.tau_spectra.specs.Windows.{latter};
 
@@ -19,12 +20,14 @@ pub fn first_half(
     scratch: &mut [f64; 1024],
     bins: &[f64; 514],
     samples: &mut [f32],
-)
+) -> u32
     requires { ⌜ now table ≡ recombination ⌝ }
     requires { ⌜ length (now samples) ≡ 256 ⌝ }
     ensures { λ _. ⌜ now (samples .exit) ≡ take 256 (samplesOf (now (bins .entry))) ⌝ }
+    ensures { λ r. ⌜ r ≡ oversOf (now (bins .entry)) ⌝ }
 {
-    fft::inverse_half_with(table, scratch, bins, false, samples);
+    let inverted = fft::inverse_half_with(table, scratch, bins, false, samples);
+    inverted.overs as u32
 }
 
 pub fn later_half(
@@ -32,11 +35,13 @@ pub fn later_half(
     scratch: &mut [f64; 1024],
     bins: &[f64; 514],
     samples: &mut [f32; 256],
-)
+) -> u32
     requires { ⌜ now table ≡ recombination ⌝ }
     ensures { λ _. ⌜ now (samples .exit) ≡ latter (samplesOf (now (bins .entry))) ⌝ }
+    ensures { λ r. ⌜ r ≡ oversOf (now (bins .entry)) ⌝ }
 {
-    fft::inverse_half_with(table, scratch, bins, true, samples);
+    let inverted = fft::inverse_half_with(table, scratch, bins, true, samples);
+    inverted.overs as u32
 }
 
 pub fn slide(w: &mut [f32], b: &[f32])

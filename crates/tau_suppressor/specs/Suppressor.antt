@@ -12,7 +12,7 @@ use Rattle.laws.specs.Tables.{table}
 use Rattle.numbers.specs.Order.{clampOf}
 use Rattle.complex.specs.declared.Complex.{Complex}
 use Rattle.complex.specs.Complexes.{newC, scaleC}
-use Rattle.fft.specs.Calls.{spectrumOf, samplesOf}
+use Rattle.fft.specs.Calls.{spectrumOf, samplesOf, oversOf}
 use Rattle.tau_state.specs.Constants.{zero64, one, f0·0003, f0·1, f0·2, f0·5, f0·7, smoothBy}
 use Rattle.tau_state.specs.declared.state.Suppressor.{Suppressor}
 use Rattle.tau_spectra.specs.Bins.{powerAt}
@@ -56,10 +56,11 @@ unfoldable pub shaped : List Float → List Float → List Float
 shaped averages spectrum =
     over2 nan 257 (λ k re im. scaleC (newC re im) (getD averages k nan) .re) (λ k re im. scaleC (newC re im) (getD averages k nan) .im) spectrum
 
--- what step 7 leaves
+-- what step 7 leaves, and how many samples of its inverse went over (K8)
 pub record Suppressed : Type 0 where
   pub suppressor : Suppressor
   pub block : List Float
+  pub overs : ℕ
 
 -- 7. "Slide the error window always. Suppressor only if .."; runs says whether it does
 unfoldable pub suppressed : Bool → Bool → List Float → List Float → Suppressor → Suppressed
@@ -73,6 +74,7 @@ suppressed runs protect error estimate suppressor =
     (record {
       suppressor = record { «echo_power» = echo; «error_power» = err; gain = gain; «error_window» = window };
       block = latter (samplesOf (shaped (averaged gain) spectrum));
+      overs = oversOf (shaped (averaged gain) spectrum);
     })
     (record {
       suppressor = record {
@@ -82,4 +84,5 @@ suppressed runs protect error estimate suppressor =
         «error_window» = window;
       };
       block = error;
+      overs = 0;
     })

@@ -125,6 +125,7 @@ fn shape(g: &[f64; 257], s: &mut [f64])
     }
 }
 
+// How many samples of its inverse went over, 0 where it does not run.
 pub fn suppress(
     table: &[f64; 514],
     scratch: &mut [f64; 1024],
@@ -136,9 +137,9 @@ pub fn suppress(
     gain: &mut [f64; 257],
     window: &mut [f32; 512],
     block: &mut [f32; 256],
-)
+) -> u32
     requires { ⌜ now table ≡ recombination ⌝ }
-    ensures { λ _. ⌜ record { suppressor = suppressorOf (now (echo .exit)) (now (err .exit)) (now (gain .exit)) (now (window .exit)); block = now (block .exit) } ≡ suppressed on protect (now (block .entry)) (now (estimate .entry)) (suppressorOf (now (echo .entry)) (now (err .entry)) (now (gain .entry)) (now (window .entry))) ⌝ }
+    ensures { λ r. ⌜ record { suppressor = suppressorOf (now (echo .exit)) (now (err .exit)) (now (gain .exit)) (now (window .exit)); block = now (block .exit); overs = r } ≡ suppressed on protect (now (block .entry)) (now (estimate .entry)) (suppressorOf (now (echo .entry)) (now (err .entry)) (now (gain .entry)) (now (window .entry))) ⌝ }
 {
     slide(window, block);
     if on {
@@ -148,6 +149,7 @@ pub fn suppress(
         bin_powers(&bins, err);
         gains(protect, echo, err, gain);
         shape(gain, &mut bins);
-        later_half(table, scratch, &bins, block);
+        return later_half(table, scratch, &bins, block);
     }
+    0
 }

@@ -2,14 +2,16 @@
 use mathlib.Core.Bool.{Bool, _&&_}
 use mathlib.Core.List.{List}
 use mathlib.Core.Path.{_≡_}
-use Prim.Native.Nat.{ℕ}
+use Prim.Native.Nat.{ℕ, zero, suc, _+_, _*_, _≤_}
+use native.Mathlib.Omega.{arith}
 use lib.ListN.{length}
 use lib.Ieee.{Float}
+use Rattle.laws.specs.Loops.{iter}
 use Rattle.laws.specs.Parts.{part, withPart}
-use Rattle.fft.specs.Calls.{spectrumOf}
-use Rattle.fft.proofs.Sizes.{length-spectrum}
-use Rattle.tau_spectra.specs.Ring.{slotOf, ringOf}
-use Rattle.tau_update.specs.Update.{Learnt, gradientOf, constrained, stepped, finiteTo, learntAt}
+use Rattle.fft.specs.Calls.{spectrumOf, oversOf}
+use Rattle.fft.proofs.Sizes.{length-spectrum, overs-512}
+use Rattle.tau_spectra.specs.Ring.{Ring, slotOf, ringOf, metBy}
+use Rattle.tau_update.specs.Update.{Learnt, gradientOf, constrained, stepped, finiteTo, learntAt, learntTo}
 
 -- a constrained gradient is a spectrum
 pub length-constrained : (g : List Float) → length (constrained g) ≡ 514
@@ -17,8 +19,8 @@ unfolding constrained spectrumOf
 length-constrained g = length-spectrum _ _ _
 
 -- one partition of the update
-pub learnt-turn : (parts head : ℕ) (xs e rates w : List Float) (good : Bool) (p : ℕ)
-    {slot : ℕ} {x g h y v w' : List Float} {fine : Bool}
+pub learnt-turn : (parts head : ℕ) (xs e rates w : List Float) (good : Bool) (overs p : ℕ)
+    {slot more : ℕ} {x g h y v w' : List Float} {fine : Bool}
     → slot ≡ slotOf head parts p
     → x ≡ part 514 slot xs
     → g ≡ gradientOf x e rates
@@ -27,6 +29,14 @@ pub learnt-turn : (parts head : ℕ) (xs e rates w : List Float) (good : Bool) (
     → v ≡ stepped h y
     → fine ≡ finiteTo v 514
     → w' ≡ withPart 514 p w v
-    → _≡_ {A = Learnt} (record { weights = w'; finite = good && fine }) (learntAt (ringOf parts head xs) e rates p (record { weights = w; finite = good }))
+    → more ≡ oversOf g
+    → _≡_ {A = Learnt} (record { weights = w'; finite = good && fine; overs = overs + more }) (learntAt (ringOf parts head xs) e rates p (record { weights = w; finite = good; overs = overs }))
 unfolding learntAt
-learnt-turn parts head xs e rates w good p e1 e2 e3 e4 e5 e6 e7 e8 = rw (e8, e7, e6, e5, e4, e3, e2, e1)
+learnt-turn parts head xs e rates w good overs p e1 e2 e3 e4 e5 e6 e7 e8 e9 = rw (e9, e8, e7, e6, e5, e4, e3, e2, e1)
+
+-- no more overs than samples
+pub learnt-few : (ring : Ring) (error rates shadow : List Float) (n : ℕ) → learntTo ring error rates shadow n .overs ≤ 512 * n
+unfolding learntTo learntAt iter
+learnt-few ring error rates shadow zero = omega arith
+learnt-few ring error rates shadow (suc n) =
+    omega (arith, learnt-few ring error rates shadow n, overs-512 (gradientOf (metBy ring n) error rates))

@@ -10,12 +10,12 @@ use Rattle.tau_update.specs.Update.{Updated}
 use Rattle.tau_update.specs.declared.update.UpdatedRest.{UpdatedRest}
 
 abbrev pub updatedOf : UpdatedRest → List Float → List Float → Updated
-updatedOf r means shadow = record { means = means; paths = r .paths; resets = r .«divergence_resets»; shadow = shadow }
+updatedOf r means shadow = record { means = means; paths = r .paths; resets = r .«divergence_resets»; shadow = shadow; overs = r .overs }
 
 -- the verdict alone, when all weights are written
-abbrev pub verdictOn : Bool → List Float → Paths → ℕ → List Float → Updated
-verdictOn finite means paths resets shadow =
+abbrev pub verdictOn : Bool → ℕ → List Float → Paths → ℕ → List Float → Updated
+verdictOn finite overs means paths resets shadow =
     let clear = divergeShadow paths resets shadow in
     pick finite
-    (record { means = means; paths = paths; resets = resets; shadow = shadow })
-    (record { means = means; paths = clear .paths; resets = clear .resets; shadow = clear .shadow })
+    (record { means = means; paths = paths; resets = resets; shadow = shadow; overs = overs })
+    (record { means = means; paths = clear .paths; resets = clear .resets; shadow = clear .shadow; overs = overs })

@@ -1,7 +1,7 @@
 -- Step 6, the update of the shadow, in the Rust's order of operations. Definitions only.
 use mathlib.Core.Bool.{Bool, true, _&&_}
 use mathlib.Core.List.{List, _++_}
-use Prim.Native.Nat.{ℕ}
+use Prim.Native.Nat.{ℕ, _+_}
 use lib.ListN.{getD, take, replicate}
 use lib.Ieee.{Float, nan, binary64, add, sub, mul, div, lt}
 use Rattle.laws.specs.Choice.{pick}
@@ -12,7 +12,7 @@ use Rattle.numbers.specs.Order.{minOf, maxOf}
 use Rattle.numbers.specs.Finite.{isFinite}
 use Rattle.complex.specs.declared.Complex.{Complex}
 use Rattle.complex.specs.Complexes.{newC, getC, scaleC}
-use Rattle.fft.specs.Calls.{spectrumOf, samplesOf}
+use Rattle.fft.specs.Calls.{spectrumOf, samplesOf, oversOf}
 use Rattle.tau_state.specs.Constants.{zero32, zero64, one, f0·001, f0·02, f0·98, smoothBy}
 use Rattle.tau_state.specs.declared.state.Paths.{Paths}
 use Rattle.tau_clears.specs.Clears.{divergeShadow}
@@ -66,20 +66,22 @@ stepped gradient weights = over 514 (λ k w. add binary64 w (getD gradient k nan
 unfoldable pub finiteTo : List Float → ℕ → Bool
 finiteTo weights n = iter (λ k fine. fine && isFinite (getD weights k nan)) true n
 
--- the shadow's weights, and whether all that were written are finite
+-- the shadow's weights, whether all that were written are finite, and how many samples of the constraints' inverses went over (K8)
 pub record Learnt : Type 0 where
   pub weights : List Float
   pub finite : Bool
+  pub overs : ℕ
 
 -- partition p: its gradient, constrained, added to its weights
 unfoldable pub learntAt : Ring → List Float → List Float → ℕ → Learnt → Learnt
 learntAt ring error rates p learnt =
-    let new = stepped (constrained (gradientOf (metBy ring p) error rates)) (part 514 p (learnt .weights)) in
-    record { weights = withPart 514 p (learnt .weights) new; finite = learnt .finite && finiteTo new 514 }
+    let gradient = gradientOf (metBy ring p) error rates in
+    let new = stepped (constrained gradient) (part 514 p (learnt .weights)) in
+    record { weights = withPart 514 p (learnt .weights) new; finite = learnt .finite && finiteTo new 514; overs = learnt .overs + oversOf gradient }
 
 -- the first n partitions, by the error's spectrum
 unfoldable pub learntTo : Ring → List Float → List Float → List Float → ℕ → Learnt
-learntTo ring error rates shadow n = iter (learntAt ring error rates) (record { weights = shadow; finite = true }) n
+learntTo ring error rates shadow n = iter (learntAt ring error rates) (record { weights = shadow; finite = true; overs = 0 }) n
 
 -- what step 6 leaves
 pub record Updated : Type 0 where
@@ -87,6 +89,7 @@ pub record Updated : Type 0 where
   pub paths : Paths
   pub resets : ℕ
   pub shadow : List Float
+  pub overs : ℕ
 
 -- 6. "Update of the shadow, unless .."; runs says whether it does. In the Rust's order: the spectrum of the shadow's error, the far
 -- power of each bin, each bin's rate by the means as they were, the new means, the weights partition by partition, and the verdict when
@@ -101,9 +104,9 @@ updated runs ring error scale means paths resets shadow =
     let clear = divergeShadow paths resets (learnt .weights) in
     pick runs
     (pick (learnt .finite)
-    (record { means = newMeans; paths = paths; resets = resets; shadow = learnt .weights })
-    (record { means = newMeans; paths = clear .paths; resets = clear .resets; shadow = clear .shadow }))
-    (record { means = means; paths = paths; resets = resets; shadow = shadow })
+    (record { means = newMeans; paths = paths; resets = resets; shadow = learnt .weights; overs = learnt .overs })
+    (record { means = newMeans; paths = clear .paths; resets = clear .resets; shadow = clear .shadow; overs = learnt .overs }))
+    (record { means = means; paths = paths; resets = resets; shadow = shadow; overs = 0 })
 
 -- what the partitions learn in it, for theorems that speak of the verdict
 abbrev pub learntBy : Ring → List Float → Float → List Float → List Float → Learnt

@@ -16,7 +16,7 @@ ghost use lib.ListN.{length, drop, replicate};
 ghost use lib.Ieee.{binary64, add};
 ghost use Rattle.laws.specs.Loops.{over};
 ghost use Rattle.trig.specs.Tables.{recombination};
-ghost use Rattle.fft.specs.Calls.{spectrumOf};
+ghost use Rattle.fft.specs.Calls.{spectrumOf, oversOf};
 ghost use Rattle.tau_state.specs.Constants.{zero32};
 ghost use Rattle.tau_spectra.specs.Ring.{ringOf};
 ghost use Rattle.tau_update.specs.Lent.{updatedOf, verdictOn};
@@ -111,15 +111,22 @@ fn gradient(x: &[f64], e: &[f64; 514], rates: &[f64; 257], g: &mut [f64])
     }
 }
 
-// The lags beyond one block are the wrap-around and no taps: they are zeroed.
-fn constrain(table: &[f64; 514], scratch: &mut [f64; 1024], g: &mut [f64; 514], lags: &mut [f32])
+// The lags beyond one block are the wrap-around and no taps: they are zeroed. How many of all lags went over.
+fn constrain(
+    table: &[f64; 514],
+    scratch: &mut [f64; 1024],
+    g: &mut [f64; 514],
+    lags: &mut [f32],
+) -> u32
     requires { ⌜ now table ≡ recombination ⌝ }
     requires { ⌜ (length (now lags) ≡ 512) × (drop 256 (now lags) ≡ replicate 256 zero32) ⌝ }
     ensures { λ _. ⌜ now (g .exit) ≡ constrained (now (g .entry)) ⌝ }
     ensures { λ _. ⌜ drop 256 (now (lags .exit)) ≡ replicate 256 zero32 ⌝ }
+    ensures { λ r. ⌜ r ≡ oversOf (now (g .entry)) ⌝ }
 {
-    first_half(table, scratch, g, &mut lags[..256]);
+    let overs = first_half(table, scratch, g, &mut lags[..256]);
     spectrum(table, scratch, lags, g);
+    overs
 }
 
 // One partition's weights with the gradient added, and whether all are finite.
@@ -149,6 +156,12 @@ fn all_finite(w: &[f64]) -> bool
     good
 }
 
+// Whether all weights are finite, and how many lags of all partitions went over.
+struct Learned {
+    finite: bool,
+    overs: u32,
+}
+
 // All weights are written before the verdict on them.
 fn learn(
     table: &[f64; 514],
@@ -159,33 +172,35 @@ fn learn(
     e: &[f64; 514],
     rates: &[f64; 257],
     shadow: &mut [f64],
-) -> bool
+) -> Learned
     requires { ⌜ now table ≡ recombination ⌝ }
     requires { ⌜ (length (now shadow) ≡ 514 * parts) × (length (now xs) ≡ 514 * parts) × (head < parts) × (parts ≤ 32) ⌝ }
-    ensures { λ r. ⌜ record { weights = now (shadow .exit); finite = r } ≡ learntTo (ringOf parts head (now (xs .entry))) (now (e .entry)) (now (rates .entry)) (now (shadow .entry)) parts ⌝ }
+    ensures { λ r. ⌜ record { weights = now (shadow .exit); finite = r .finite; overs = r .overs } ≡ learntTo (ringOf parts head (now (xs .entry))) (now (e .entry)) (now (rates .entry)) (now (shadow .entry)) parts ⌝ }
 {
     let mut g = [0.0f64; 514];
     let mut lags = [0.0f32; 512];
-    let mut good = true;
+    let mut finite = true;
+    let mut overs = 0u32;
     let mut p = 0usize;
     while p < parts {
         let slot = slot_of(head, parts, p);
         let b = 514 * slot;
         let be = b + 514;
         gradient(&xs[b..be], e, rates, &mut g);
-        constrain(table, scratch, &mut g, &mut lags);
+        overs += constrain(table, scratch, &mut g, &mut lags);
         let a = 514 * p;
         let ae = a + 514;
         let fine = take_step(&mut shadow[a..ae], &g);
-        good = good & fine;
+        finite = finite & fine;
         p += 1;
     }
-    good
+    Learned { finite, overs }
 }
 
 pub struct UpdatedRest {
     pub paths: Paths,
     pub divergence_resets: u64,
+    pub overs: u32,
 }
 
 // The error behind 256 zeros.
@@ -238,22 +253,30 @@ pub fn adapt_shadow(
         let mut steps = [0.0f64; 257];
         error_spectrum(table, scratch, error, &mut e);
         next_steps(xs, parts, scale, means, &mut steps);
-        let good = learn(table, scratch, parts, head, xs, &e, &steps, shadow);
-        return judge(good, means, p, resets, shadow);
+        let learned = learn(table, scratch, parts, head, xs, &e, &steps, shadow);
+        return judge(learned, means, p, resets, shadow);
     }
     UpdatedRest {
         paths: p,
         divergence_resets: resets,
+        overs: 0,
     }
 }
 
-fn judge(good: bool, means: &[f64; 257], p: Paths, resets: u64, shadow: &mut [f64]) -> UpdatedRest
-    ensures { λ r. ⌜ updatedOf r (now (means .entry)) (now (shadow .exit)) ≡ verdictOn good (now (means .entry)) p resets (now (shadow .entry)) ⌝ }
+fn judge(
+    learned: Learned,
+    means: &[f64; 257],
+    p: Paths,
+    resets: u64,
+    shadow: &mut [f64],
+) -> UpdatedRest
+    ensures { λ r. ⌜ updatedOf r (now (means .entry)) (now (shadow .exit)) ≡ verdictOn (learned .finite) (learned .overs) (now (means .entry)) p resets (now (shadow .entry)) ⌝ }
 {
-    if good {
+    if learned.finite {
         return UpdatedRest {
             paths: p,
             divergence_resets: resets,
+            overs: learned.overs,
         };
     }
     let c = diverge_shadow(p, resets, shadow);
@@ -261,5 +284,6 @@ fn judge(good: bool, means: &[f64; 257], p: Paths, resets: u64, shadow: &mut [f6
     UpdatedRest {
         paths: q,
         divergence_resets: c.divergence_resets,
+        overs: learned.overs,
     }
 }

@@ -22,9 +22,10 @@ half-at-spec =
     (λ c. let sampled = c .before .before .before .before in
     let counted = sampled .before .before .before in
     let taken = counted .before .before in
-    let a = taken .before .before .before .args in
-    (sampled .samples-at .ensures .0 ∙ later-half (a .z .now) (a .later) (taken .if1 .taken),
-    rw (counted .overs-at .ensures, sampled .samples-at .ensures .1) (both-halves (a .z .now))))
+    let a = taken .before .before .before .args in (
+      sampled .samples-at .ensures .0 ∙ later-half (a .z .now) (a .later) (taken .if1 .taken),
+      rw (counted .overs-at .ensures, sampled .samples-at .ensures .1) (both-halves (a .z .now)),
+    ))
     (λ c κs. search needs)
     (λ c κs. search needs)
     (λ c. let sampled = c .before .before .before .before in
@@ -36,6 +37,7 @@ half-at-spec =
     (λ c. let sampled = c .before .before .before .before in
     let counted = sampled .before .before .before in
     let left = counted .before .before in
-    let a = left .before .before .before .args in
-    (sampled .samples-at2 .ensures .0 ∙ first-half (a .z .now) (a .later) (left .if1 .left),
-    rw (counted .overs-at2 .ensures, sampled .samples-at2 .ensures .1) (add-comm _ _ ∙ both-halves (a .z .now)))))
+    let a = left .before .before .before .args in (
+      sampled .samples-at2 .ensures .0 ∙ first-half (a .z .now) (a .later) (left .if1 .left),
+      rw (counted .overs-at2 .ensures, sampled .samples-at2 .ensures .1) (add-comm _ _ ∙ both-halves (a .z .now)),
+    )))

@@ -20,8 +20,8 @@ output-estimate-spec =
     let at-errors = at-if1 .before in
     let at-later-half = at-errors .before .before .before in
     let at-echo = at-later-half .before .before .before .before in
-    pick-yes _ _ _ (rw (← at-echo .echo .ensures, ← at-later-half .later-half .ensures, ← at-errors .errors .ensures .1) (at-if1 .if1 .taken)) (rw (← at-diverge .diverge .ensures, at-echo .echo .ensures)))
+    pick-yes _ _ _ (rw (← at-echo .echo .ensures, ← at-later-half .later-half .ensures .0, ← at-errors .errors .ensures .1) (at-if1 .if1 .taken)) (rw (← at-diverge .diverge .ensures, at-later-half .later-half .ensures .1, at-echo .echo .ensures)))
     (λ c. search needs)
     (λ c. let at-later-half = c .before .before .before .before in
     let at-echo = at-later-half .before .before .before .before in
-    pick-no _ _ _ (rw (← at-echo .echo .ensures, ← at-later-half .later-half .ensures, ← c .before .errors .ensures .1) (c .if1 .left)) (rw (c .before .errors .ensures .0, at-later-half .later-half .ensures, at-echo .echo .ensures))))
+    pick-no _ _ _ (rw (← at-echo .echo .ensures, ← at-later-half .later-half .ensures .0, ← c .before .errors .ensures .1) (c .if1 .left)) (rw (c .before .errors .ensures .0, at-later-half .later-half .ensures .0, at-later-half .later-half .ensures .1, at-echo .echo .ensures))))

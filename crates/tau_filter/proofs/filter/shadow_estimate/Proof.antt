@@ -14,6 +14,12 @@ shadow-estimate-spec =
     (λ c κs. search needs)
     (λ c κs. search needs)
     (λ c. search needs)
-    (λ c. pick-yes _ _ _ (cc) (rw (← c .before .before .before .before .before .diverge-shadow .ensures)))
+    (λ c. let at-diverge = c .before .before .before .before .before in
+    let at-errors = at-diverge .before .before .before in
+    let at-later-half = at-errors .before .before .before in
+    let at-echo = at-later-half .before .before .before .before in
+    pick-yes _ _ _ (cc) (rw (← at-diverge .diverge-shadow .ensures, at-later-half .later-half .ensures .1, at-echo .echo .ensures)))
     (λ c. search needs)
-    (λ c. pick-no _ _ _ (cc) (rw (c .before .errors .ensures .0, c .before .before .before .before .later-half .ensures, c .before .before .before .before .before .before .before .before .echo .ensures))))
+    (λ c. let at-later-half = c .before .before .before .before in
+    let at-echo = at-later-half .before .before .before .before in
+    pick-no _ _ _ (cc) (rw (c .before .errors .ensures .0, at-later-half .later-half .ensures .0, at-later-half .later-half .ensures .1, at-echo .echo .ensures))))

@@ -25,5 +25,5 @@ suppress-spec =
     let at-spectrum = at-bin-powers .before .before .before in
     let at-if1 = at-spectrum .before .before .before .before .before in
     let at-slide = at-if1 .before in
-    pick-yes _ _ _ (at-if1 .if1 .taken) (rw (c .later-half .ensures, at-shape .shape .ensures, at-gains .gains .ensures, at-bin-powers2 .bin-powers2 .ensures, at-bin-powers .bin-powers .ensures, at-spectrum .spectrum .ensures, at-slide .slide .ensures)))
+    pick-yes _ _ _ (at-if1 .if1 .taken) (rw (c .later-half .ensures .0, c .later-half .ensures .1, at-shape .shape .ensures, at-gains .gains .ensures, at-bin-powers2 .bin-powers2 .ensures, at-bin-powers .bin-powers .ensures, at-spectrum .spectrum .ensures, at-slide .slide .ensures)))
     (λ c. pick-no _ _ _ (c .if1 .left) (rw (c .before .slide .ensures))))
