@@ -35,29 +35,29 @@ grouped-is : (flagged : Bool) (playing : Playing) (b : Block) (m : Microphone)
     → j ≡ compares (b .adapt) (playing .active) (b .near) energy (b .valid) f (m .mic)
     → u ≡ updated (updates (b .adapt) f j) (playing .ring) (f .shadowError) (j .detector .«step_scale») (m .mic .«far_power_mean») (j .comparison .paths) (f .output .resets) (j .comparison .shadow)
     → g ≡ delivered (suppresses flagged (playing .sounded) f) (j .detector .«protect_output») (b .near) energy (b .valid) (f .output) (m .mic) (u .paths) (u .resets) (j .comparison .output)
-    → gathered j u g ≡ grouped flagged playing b m
+    → gathered f j u g ≡ grouped flagged playing b m
 unfolding grouped
 grouped-is flagged playing b m e1 e2 e3 e4 e5 = rw (← e1, ← e2, ← e3, ← e4, ← e5)
 
 -- the same with the arrays lent: a step's contract names none of the microphone's arrays that the step does not touch
 pub listen-lent : (flagged : Bool) (parts head : ℕ) (sounded active : Bool) (xs near : List Float) (valid : ℕ) (adapt : Bool) (m : MicRest) (means : List Float)
-    (suppressor : Suppressor) (sh ou : List Float)
-    {energy : Float} {diverged : Bool} {checked : Checked} {estimate es bins block sh1 ou1 : List Float} {u1 : Suppressor} {j : Judged} {sh2 ou2 : List Float} {u : UpdatedRest}
+    (suppressor : Suppressor) (sh ou : List Float) (first : Checked)
+    {energy : Float} {checked : Checked} {estimate es bins block sh1 ou1 : List Float} {u1 : Suppressor} {j : Judged} {sh2 ou2 : List Float} {u : UpdatedRest}
     {means' sh3 : List Float} {g : DeliveredRest} {u2 : Suppressor} {block' ou3 : List Float}
     → energy ≡ energyOf near valid
-    → filteredOf diverged checked estimate es u1 bins block sh1 ou1 ≡ filtered (ringOf parts head xs) near (micOf m [] suppressor) sh ou
-    → judgementOf j sh2 ou2 ≡ compares adapt active near energy valid (filteredOf diverged checked estimate es noSuppressor [] block sh1 ou1) (bare m)
+    → filteredOf first checked estimate es u1 bins block sh1 ou1 ≡ filtered (ringOf parts head xs) near (micOf m [] suppressor) sh ou
+    → judgementOf j sh2 ou2 ≡ compares adapt active near energy valid (filteredOf first checked estimate es noSuppressor [] block sh1 ou1) (bare m)
     → updatedOf u means' sh3
-    ≡ updated (adapt && not (checked .diverged) && not diverged && not (j .compared .rescued)) (ringOf parts head xs) es
+    ≡ updated (adapt && not (checked .diverged) && not (first .diverged) && not (j .compared .rescued)) (ringOf parts head xs) es
     (j .detector .«step_scale») means (j .compared .paths) (checked .«divergence_resets») sh2
     → deliveredOf g u2 block' ou3
     ≡ delivered (flagged && sounded && not (checked .diverged)) (j .detector .«protect_output») near energy valid
     (estimatedOf checked u1 bins block [] []) (bare m) (u .paths) (u .«divergence_resets») ou2
-    → gathered (judgementOf j sh2 ou2) (updatedOf u means' sh3) (deliveredOf g u2 block' ou3)
+    → gathered (filteredOf first checked estimate es u1 bins block sh1 ou1) (judgementOf j sh2 ou2) (updatedOf u means' sh3) (deliveredOf g u2 block' ou3)
     ≡ listen flagged (record { ring = ringOf parts head xs; sounded = sounded; active = active }) (record { near = near; valid = valid; adapt = adapt })
     (record { mic = micOf m means suppressor; shadow = sh; output = ou })
 unfolding filtered compares delivered
-listen-lent flagged parts head sounded active xs near valid adapt m means suppressor sh ou e1 e2 e3 e4 e5 =
+listen-lent flagged parts head sounded active xs near valid adapt m means suppressor sh ou first e1 e2 e3 e4 e5 =
     let playing : Playing = record { ring = ringOf parts head xs; sounded = sounded; active = active } in
     let b : Block = record { near = near; valid = valid; adapt = adapt } in
     let microphone : Microphone = record { mic = micOf m means suppressor; shadow = sh; output = ou } in

@@ -1,4 +1,4 @@
--- One partition of the update, from its parts' answers in the code's order. Assumes nothing.
+-- One partition of the update, from its parts' answers in the code's order; and how many overs it tells at most. Assumes nothing.
 use mathlib.Core.Bool.{Bool, _&&_}
 use mathlib.Core.List.{List}
 use mathlib.Core.Path.{_≡_}
@@ -6,12 +6,14 @@ use Prim.Native.Nat.{ℕ, zero, suc, _+_, _*_, _≤_}
 use native.Mathlib.Omega.{arith}
 use lib.ListN.{length}
 use lib.Ieee.{Float}
+use Rattle.laws.specs.Choice.{pick-if}
 use Rattle.laws.specs.Loops.{iter}
 use Rattle.laws.specs.Parts.{part, withPart}
 use Rattle.fft.specs.Calls.{spectrumOf, oversOf}
 use Rattle.fft.proofs.Sizes.{length-spectrum, overs-512}
+use Rattle.tau_state.specs.declared.state.Paths.{Paths}
 use Rattle.tau_spectra.specs.Ring.{Ring, slotOf, ringOf, metBy}
-use Rattle.tau_update.specs.Update.{Learnt, gradientOf, constrained, stepped, finiteTo, learntAt, learntTo}
+use Rattle.tau_update.specs.Update.{Learnt, gradientOf, constrained, stepped, finiteTo, learntAt, learntTo, Updated, updated}
 
 -- a constrained gradient is a spectrum
 pub length-constrained : (g : List Float) → length (constrained g) ≡ 514
@@ -40,3 +42,10 @@ unfolding learntTo learntAt iter
 learnt-few ring error rates shadow zero = omega arith
 learnt-few ring error rates shadow (suc n) =
     omega (arith, learnt-few ring error rates shadow n, overs-512 (gradientOf (metBy ring n) error rates))
+
+pub updated-few : (runs : Bool) (ring : Ring) (error : List Float) (scale : Float) (means : List Float) (paths : Paths) (resets : ℕ) (shadow : List Float)
+    → updated runs ring error scale means paths resets shadow .overs ≤ 512 * (ring .partitions)
+unfolding updated
+updated-few runs ring error scale means paths resets shadow =
+    pick-if (λ (z : Updated). z .overs ≤ 512 * (ring .partitions)) _
+    (λ _. pick-if (λ (z : Updated). z .overs ≤ 512 * (ring .partitions)) _ (λ _. learnt-few ring _ _ _ _) (λ _. learnt-few ring _ _ _ _)) (λ _. omega arith)

@@ -1,4 +1,5 @@
 use Rattle.tau_block.proofs.Composed.{listen-lent}
+use Rattle.tau_block.proofs.Few.{filter-few, update-few, deliver-few}
 use native.Mathlib.Omega.{arith}
 use borrow.Author.Needs.{needs}
 use Rattle.tau_block.proofs.block.run_mic.Statement.{statement}
@@ -21,19 +22,40 @@ run-mic-spec =
     let at-filter = at-judge .before .before .before .before .before .before .before .before .before .before .before .before in
     let start = at-filter .before .before .before .before .before .before .before .before .before .before .before .before .before .before .before .before in
     let p = start .pre in (p .0, p .1 .5))
-    (λ c. let at-adapt-shadow = c .before .before .before .before .before .before .before .before .before .before .before .before .before .before .before .before .before .before in
+    (λ c. let at-deliver = c .before .before .before .before .before .before .before in
+    let at-adapt-shadow = at-deliver .before .before .before .before .before .before .before .before .before .before .before .before .before in
+    let at-judge = at-adapt-shadow .before .before .before .before .before .before .before .before .before .before .before .before .before .before .before in
+    let at-filter = at-judge .before .before .before .before .before .before .before .before .before .before .before .before in
+    let start = at-filter .before .before .before .before .before .before .before .before .before .before .before .before .before .before .before .before in
+    let first = filter-few (at-filter .filter .result .shadow) _ _ _ _ _ (at-filter .filter .ensures) in
+    omega (arith, first .0, first .1, start .pre .1 .4, update-few _ _ _ _ _ _ _ _ (at-adapt-shadow .adapt-shadow .ensures), deliver-few _ _ _ _ _ _ _ _ _ _ (at-deliver .deliver .ensures)))
+    (λ c. let at-deliver = c .before .before .before .before .before .before .before .before in
+    let at-adapt-shadow = at-deliver .before .before .before .before .before .before .before .before .before .before .before .before .before in
+    let at-judge = at-adapt-shadow .before .before .before .before .before .before .before .before .before .before .before .before .before .before .before in
+    let at-filter = at-judge .before .before .before .before .before .before .before .before .before .before .before .before in
+    let start = at-filter .before .before .before .before .before .before .before .before .before .before .before .before .before .before .before .before in
+    let first = filter-few (at-filter .filter .result .shadow) _ _ _ _ _ (at-filter .filter .ensures) in
+    omega (arith, first .0, first .1, start .pre .1 .4, update-few _ _ _ _ _ _ _ _ (at-adapt-shadow .adapt-shadow .ensures), deliver-few _ _ _ _ _ _ _ _ _ _ (at-deliver .deliver .ensures)))
+    (λ c. let at-deliver = c .before .before .before .before .before .before .before .before .before in
+    let at-adapt-shadow = at-deliver .before .before .before .before .before .before .before .before .before .before .before .before .before in
+    let at-judge = at-adapt-shadow .before .before .before .before .before .before .before .before .before .before .before .before .before .before .before in
+    let at-filter = at-judge .before .before .before .before .before .before .before .before .before .before .before .before in
+    let start = at-filter .before .before .before .before .before .before .before .before .before .before .before .before .before .before .before .before in
+    let first = filter-few (at-filter .filter .result .shadow) _ _ _ _ _ (at-filter .filter .ensures) in
+    omega (arith, first .0, first .1, start .pre .1 .4, update-few _ _ _ _ _ _ _ _ (at-adapt-shadow .adapt-shadow .ensures), deliver-few _ _ _ _ _ _ _ _ _ _ (at-deliver .deliver .ensures)))
+    (λ c. let at-adapt-shadow = c .before .before .before .before .before .before .before .before .before .before .before .before .before .before .before .before .before .before .before .before .before .before in
     let at-judge = at-adapt-shadow .before .before .before .before .before .before .before .before .before .before .before .before .before .before .before in
     let at-filter = at-judge .before .before .before .before .before .before .before .before .before .before .before .before in
     let start = at-filter .before .before .before .before .before .before .before .before .before .before .before .before .before .before .before .before in
     omega (arith, start .pre .1, at-filter .filter .kept, at-judge .judge .kept, at-adapt-shadow .adapt-shadow .kept))
-    (λ c. let at-deliver = c .before .before .before .before .before in
+    (λ c. let at-deliver = c .before .before .before .before .before .before .before .before .before in
     let at-judge = at-deliver .before .before .before .before .before .before .before .before .before .before .before .before .before .before .before .before .before .before .before .before .before .before .before .before .before .before .before .before in
     let at-filter = at-judge .before .before .before .before .before .before .before .before .before .before .before .before in
     let start = at-filter .before .before .before .before .before .before .before .before .before .before .before .before .before .before .before .before in
     omega (arith, start .pre .1, at-filter .filter .kept, at-judge .judge .kept, at-deliver .deliver .kept))
-    (λ c. let at-deliver = c .before .before .before .before .before in
+    (λ c. let at-deliver = c .before .before .before .before .before .before .before .before .before in
     let at-adapt-shadow = at-deliver .before .before .before .before .before .before .before .before .before .before .before .before .before in
     let at-judge = at-adapt-shadow .before .before .before .before .before .before .before .before .before .before .before .before .before .before .before in
     let at-filter = at-judge .before .before .before .before .before .before .before .before .before .before .before .before in
     let at-energy = at-filter .before .before .before .before .before .before .before .before .before .before .before .before in
-    listen-lent _ _ _ _ _ _ _ _ _ _ _ _ _ _ (at-energy .energy .ensures) (at-filter .filter .ensures) (at-judge .judge .ensures) (at-adapt-shadow .adapt-shadow .ensures) (at-deliver .deliver .ensures)))
+    listen-lent _ _ _ _ _ _ _ _ _ _ _ _ _ _ (at-filter .filter .result .shadow) (at-energy .energy .ensures) (at-filter .filter .ensures) (at-judge .judge .ensures) (at-adapt-shadow .adapt-shadow .ensures) (at-deliver .deliver .ensures)))
