@@ -146,7 +146,7 @@ pub learnt-lengths : (ring : Ring) (e rates sh : List Float) → length sh ≡ 5
     → length (learntTo ring e rates sh (ring .partitions) .weights) ≡ 514 * ring .partitions
 unfolding learntTo
 learnt-lengths ring e rates sh h =
-    iter-keeps (λ (l : Learnt). length (l .weights) ≡ 514 * ring .partitions) (learntAt ring e rates) (record { weights = sh; finite = true }) (ring .partitions) h
+    iter-keeps (λ (l : Learnt). length (l .weights) ≡ 514 * ring .partitions) (learntAt ring e rates) (record { weights = sh; finite = true; overs = 0 }) (ring .partitions) h
     (λ p l b g. learnt-length ring e rates p l b g)
 
 updated-length : (runs : Bool) (ring : Ring) (error : List Float) (scale : Float) (means : List Float) (p : Paths) (resets : ℕ) (sh : List Float)

@@ -61,21 +61,22 @@ output-clears ring near p u m sh ou =
     (λ _. pick-yes true (divergeOf p u m sh ou) kept refl refl) (λ _. pick-no false (divergeOf p u m sh ou) kept refl refl)
 
 -- step 6, of any weights learnt, finite or not
-learnt-clears : (runs finite : Bool) (new means : List Float) (p : Paths) (m : ℕ) (w sh : List Float)
+learnt-clears : (runs finite : Bool) (new means : List Float) (p : Paths) (m overs : ℕ) (w sh : List Float)
     → let clear = divergeShadow p m w in
     let r : Updated = pick runs
-    (pick finite (record { means = new; paths = p; resets = m; shadow = w }) (record { means = new; paths = clear .paths; resets = clear .resets; shadow = clear .shadow }))
-    (record { means = means; paths = p; resets = m; shadow = sh }) in
+    (pick finite (record { means = new; paths = p; resets = m; shadow = w; overs = overs })
+    (record { means = new; paths = clear .paths; resets = clear .resets; shadow = clear .shadow; overs = overs }))
+    (record { means = means; paths = p; resets = m; shadow = sh; overs = 0 }) in
     _≡_ {A = ShadowClear} (record { paths = r .paths; resets = r .resets; shadow = r .shadow })
     (pick (runs && not finite) clear (record { paths = p; resets = m; shadow = pick runs w sh }))
 unfolding pick
-learnt-clears true true new means p m w sh = refl
-learnt-clears true false new means p m w sh = refl
-learnt-clears false finite new means p m w sh = refl
+learnt-clears true true new means p m overs w sh = refl
+learnt-clears true false new means p m overs w sh = refl
+learnt-clears false finite new means p m overs w sh = refl
 
 pub update-clears : UpdateClears
 unfolding updated
-update-clears runs ring error scale means p m sh = learnt-clears runs (learntBy ring error scale means sh .finite) _ means p m _ sh
+update-clears runs ring error scale means p m sh = learnt-clears runs (learntBy ring error scale means sh .finite) _ means p m _ _ sh
 
 -- step 8
 pub guard-clears : GuardClears

@@ -315,7 +315,7 @@ learnt-plus : {sh : List Float} (ring : Ring) (e rates : List Float) → Kept Ze
     → Going (ring .partitions) (learntTo ring e rates sh (ring .partitions))
 unfolding learntTo
 learnt-plus {sh} ring e rates X W =
-    iter-keeps (Going (ring .partitions)) (learntAt ring e rates) (record { weights = sh; finite = true }) (ring .partitions) (record { still = λ _. W })
+    iter-keeps (Going (ring .partitions)) (learntAt ring e rates) (record { weights = sh; finite = true; overs = 0 }) (ring .partitions) (record { still = λ _. W })
     (λ p l b h. learnt-going ring e rates p l b X h)
 
 -- whether it runs or not; weights that are not all finite are cleared
