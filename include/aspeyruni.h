@@ -80,8 +80,8 @@ struct aspeyruni_inverted {
     size_t overs;
 };
 
-/* 512 samples to 514 numbers, 257 bins real part then imaginary, and back; 256 complex points in place, 512 numbers. The
- * refusal is ASPEYRUNI_ACCEPTED or ASPEYRUNI_REFUSED_BUFFER. */
+/* 512 samples to 514 numbers, 257 bins real part then imaginary, and back; 256 complex points in place, 512 numbers. The refusal is
+ * ASPEYRUNI_ACCEPTED or ASPEYRUNI_REFUSED_BUFFER. */
 uint32_t aspeyruni_forward(const float *samples, size_t samples_len, double *spectrum, size_t spectrum_len);
 struct aspeyruni_inverted aspeyruni_inverse(const double *spectrum, size_t spectrum_len, float *samples, size_t samples_len);
 uint32_t aspeyruni_complex_forward(double *points, size_t points_len);
