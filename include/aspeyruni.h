@@ -28,9 +28,9 @@
 #include <stdint.h>
 
 /* Header and library have to be of one version, and nothing checks it: before 1.0.0 a new minor version may change a struct's layout. */
-#define ASPEYRUNI_VERSION "0.2.0"
+#define ASPEYRUNI_VERSION "0.3.0"
 #define ASPEYRUNI_VERSION_MAJOR 0
-#define ASPEYRUNI_VERSION_MINOR 2
+#define ASPEYRUNI_VERSION_MINOR 3
 #define ASPEYRUNI_VERSION_PATCH 0
 
 /* The most pairs of one call, of either engine. */

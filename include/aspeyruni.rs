@@ -25,9 +25,9 @@
 
 /// This file and the library have to be of one version, and nothing checks it: before 1.0.0 a new minor version may change a struct's
 /// layout.
-pub const VERSION: &str = "0.2.0";
+pub const VERSION: &str = "0.3.0";
 pub const VERSION_MAJOR: u32 = 0;
-pub const VERSION_MINOR: u32 = 2;
+pub const VERSION_MINOR: u32 = 3;
 pub const VERSION_PATCH: u32 = 0;
 
 /// The most pairs of one call, of either engine.
