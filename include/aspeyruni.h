@@ -259,7 +259,7 @@ static inline const char *aspeyruni_reason_words(uint32_t reason)
  * NaN before that does not count.
  *
  * It is the sum over these transforms, with suppression and without: one for the estimate of each filter, one for each partition where the
- * shadow learns, and one where the suppressor runs. Of each all 512 samples count, those too that the block drops; so it is at most
+ * shadow is updated, and one where the suppressor runs. Of each all 512 samples count, those too that the block drops; so it is at most
  * 512 * (P + 3). Where the output filter's estimate has one in the half that is used, that filter diverges, and both are cleared.
  *
  * Expect 0. A call that fills no block says 0, and so do a flush of nothing and a refused call; of several blocks in a call it is the last
