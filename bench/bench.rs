@@ -260,8 +260,8 @@ fn complex_forward() -> Times {
 }
 
 /// The Rust's is an instruction, which takes several numbers at once and which Rattle does not have. One in so many numbers is a zero,
-/// or none.
-fn narrow(zeros: Option<u64>, port: fn(&[f64], &mut [f32])) -> Times {
+/// or none. What the port answers is not looked at.
+fn narrow<T>(zeros: Option<u64>, port: fn(&[f64], &mut [f32]) -> T) -> Times {
     let (mut sound, mut choice) = (Noise::sound(SEED), Random(OTHER_SEED));
     let mut number = move || {
         let x = sound.number();

@@ -9,7 +9,8 @@
  * At the end of the input all that went in comes out: the whole pairs of an unfinished frame are processed too, Tau is flushed, and what
  * is in the queue is written. So the output is 224 zeros and then a sample for each pair. It is the same after a failed read, with what was
  * read. Where a read, a write or a call fails the host says so on standard error, and its status is 1. At the end it writes there what
- * support asks for where echo stays: in how many blocks the output filter moved, and in how many it did not for which reason. */
+ * support asks for: where echo stays, in how many blocks the output filter moved, and in how many it did not for which reason; where a
+ * box clips, how many blocks had samples that went over, and how many samples. */
 #include "aspeyruni.h"
 #include <math.h>
 #include <stdio.h>
@@ -33,6 +34,7 @@ static struct aspeyruni_tau_answer answer; /* of the last call, with the engine'
 static float queue[QUEUE];
 static size_t queued = SILENCE;
 static unsigned long blocks[ASPEYRUNI_REASON_MOVED + 1]; /* how many had each reason; the first counts calls that ran none */
+static unsigned long blocks_with_overs, overs;
 
 static bool is_accepted(uint32_t refusal)
 {
@@ -46,6 +48,8 @@ static bool note_answer(void)
 {
     queued += answer.delivered;
     blocks[answer.reason]++;
+    blocks_with_overs += answer.overs > 0;
+    overs += answer.overs;
     return is_accepted(answer.refusal);
 }
 
@@ -54,6 +58,7 @@ static void tell(void)
     for (uint32_t reason = ASPEYRUNI_REASON_FLUSH_BLOCK; reason <= ASPEYRUNI_REASON_MOVED; reason++)
         if (blocks[reason] > 0)
             fprintf(stderr, "frames: %s: %lu\n", aspeyruni_reason_words(reason), blocks[reason]);
+    fprintf(stderr, "frames: blocks with samples that went over: %lu, samples: %lu\n", blocks_with_overs, overs);
 }
 
 static float sample_of(const unsigned char *bytes)

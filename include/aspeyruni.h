@@ -2,8 +2,8 @@
  * docs/PROMISES.md says what each promises. Link libaspeyruni, which `make` builds.
  *
  * A buffer is a pointer and how many numbers it has. A state is passed by value, and comes back in the answer; any state may be passed,
- * and a bad one is refused. For an answer that is a struct the caller gives the place, before all else. The one exception is what
- * aspeyruni_record_write answers: those 16 bytes come back by value, which is in two registers on x86-64 as on Arm.
+ * and a bad one is refused. For an answer that is a struct the caller gives the place, before all else. The two exceptions are what
+ * aspeyruni_inverse and aspeyruni_record_write answer: these 16 bytes come back by value, which is in two registers on x86-64 as on Arm.
  * Two states are the same where their fields are: the bytes between fields hold anything, so memcmp may not be asked.
  *
  * What a caller has to see to, since no refusal tells of it:
@@ -28,9 +28,9 @@
 #include <stdint.h>
 
 /* Header and library have to be of one version, and nothing checks it: before 1.0.0 a new minor version may change a struct's layout. */
-#define ASPEYRUNI_VERSION "0.2.0"
+#define ASPEYRUNI_VERSION "0.3.0"
 #define ASPEYRUNI_VERSION_MAJOR 0
-#define ASPEYRUNI_VERSION_MINOR 2
+#define ASPEYRUNI_VERSION_MINOR 3
 #define ASPEYRUNI_VERSION_PATCH 0
 
 /* The most pairs of one call, of either engine. */
@@ -61,13 +61,29 @@ enum aspeyruni_refusal {
 float aspeyruni_narrow(double x);
 /* The bits of that f32; for a NaN 7FC00000. */
 uint32_t aspeyruni_narrow_bits(double x);
-/* A list: number k of xs narrowed to place k of out, as far as both go; the rest of out stays. Several numbers are narrowed at once. */
-void aspeyruni_narrow_list(const double *xs, size_t xs_len, float *out, size_t out_len);
 
-/* 512 samples to 514 numbers, 257 bins real part then imaginary, and back; 256 complex points in place, 512 numbers. They answer
+/* What the f32 is to the number. */
+enum aspeyruni_kind {
+    ASPEYRUNI_EXACT = 0,   /* equal to it. An infinity is, and a NaN counts as if it were */
+    ASPEYRUNI_ROUNDED = 1, /* the nearest to it, which may be a zero */
+    ASPEYRUNI_OVER = 2     /* an infinity, where the number is finite: 2^128 - 2^103 or more in size */
+};
+uint32_t aspeyruni_narrow_kind(double x);
+
+/* A list: number k of xs narrowed to place k of out, as far as both go; the rest of out stays. Several numbers are narrowed at once. It
+ * answers how many of them went over (ASPEYRUNI_OVER). */
+size_t aspeyruni_narrow_list(const double *xs, size_t xs_len, float *out, size_t out_len);
+
+/* How many of the inverse's 512 samples went over; 0 where it is refused. */
+struct aspeyruni_inverted {
+    uint32_t refusal;
+    size_t overs;
+};
+
+/* 512 samples to 514 numbers, 257 bins real part then imaginary, and back; 256 complex points in place, 512 numbers. The refusal is
  * ASPEYRUNI_ACCEPTED or ASPEYRUNI_REFUSED_BUFFER. */
 uint32_t aspeyruni_forward(const float *samples, size_t samples_len, double *spectrum, size_t spectrum_len);
-uint32_t aspeyruni_inverse(const double *spectrum, size_t spectrum_len, float *samples, size_t samples_len);
+struct aspeyruni_inverted aspeyruni_inverse(const double *spectrum, size_t spectrum_len, float *samples, size_t samples_len);
 uint32_t aspeyruni_complex_forward(double *points, size_t points_len);
 uint32_t aspeyruni_complex_inverse(double *points, size_t points_len);
 
@@ -238,6 +254,16 @@ static inline const char *aspeyruni_reason_words(uint32_t reason)
     }
 }
 
+/* The field `overs`, for a box that clips: how many samples of the call's last block went over. Such a sample was a finite number, and
+ * became an infinity as it was narrowed (ASPEYRUNI_OVER) at the end of one of the block's inverse transforms. One that was infinite or a
+ * NaN before that does not count.
+ *
+ * It is the sum over these transforms, with suppression and without: one for the estimate of each filter, one for each partition where the
+ * shadow is updated, and one where the suppressor runs. Of each all 512 samples count, those too that the block drops; so it is at most
+ * 512 * (P + 3). Where the output filter's estimate has one in the half that is used, that filter diverges, and both are cleared.
+ *
+ * Expect 0. A call that fills no block says 0, and so do a flush of nothing and a refused call; of several blocks in a call it is the last
+ * one's. */
 struct aspeyruni_tau_answer {
     uint32_t refusal;
     size_t delivered;
@@ -247,6 +273,7 @@ struct aspeyruni_tau_answer {
     bool double_talk;
     uint32_t outcome;
     uint32_t reason;
+    uint32_t overs;
     double leak;
 };
 

@@ -5,7 +5,7 @@
 //! A buffer is a slice, which the library is passed as a pointer and a length. A state is passed by value, and comes back in the answer;
 //! any state may be passed, and a bad one is refused. For an answer that is a struct the library is given the place, before all else:
 //! x86-64 passes an answer of this size so, and the library, which is written for x86-64, does it on every processor (bin/library). The
-//! one exception is `RecordWritten`: its 16 bytes come back by value, in two registers, as C has it on x86-64 and on Arm.
+//! two exceptions are `Inverted` and `RecordWritten`: their 16 bytes come back by value, in two registers, as C does on x86-64 and on Arm.
 //! Two states are the same where their fields are: the bytes between fields hold anything, and may not be compared.
 //!
 //! What a caller has to see to, since neither the compiler nor a refusal tells of it:
@@ -25,16 +25,17 @@
 
 /// This file and the library have to be of one version, and nothing checks it: before 1.0.0 a new minor version may change a struct's
 /// layout.
-pub const VERSION: &str = "0.2.0";
+pub const VERSION: &str = "0.3.0";
 pub const VERSION_MAJOR: u32 = 0;
-pub const VERSION_MINOR: u32 = 2;
+pub const VERSION_MINOR: u32 = 3;
 pub const VERSION_PATCH: u32 = 0;
 
 /// The most pairs of one call, of either engine.
 pub const MAX_PAIRS: usize = 4096;
 
-/// What the transforms answer, and the field `refusal` of every other answer. A refused call delivers nothing, gives back the state as it
-/// was (a refused create: all zero), and writes nothing else. 1 to 6 are the engines', 7 to 9 those of records, whose writer gives 5 too.
+/// What three of the transforms answer, and the field `refusal` of every other answer. A refused call delivers nothing, gives back the
+/// state as it was (a refused create: all zero), and writes nothing else. 1 to 6 are the engines', 7 to 9 those of records, whose writer
+/// gives 5 too.
 pub mod refusal {
     pub const ACCEPTED: u32 = 0;
     /// Create: a setting outside its range.
@@ -85,9 +86,16 @@ macro_rules! answer {
 unsafe extern "C" {
     fn aspeyruni_narrow(x: f64) -> f32;
     fn aspeyruni_narrow_bits(x: f64) -> u32;
-    fn aspeyruni_narrow_list(xs: *const f64, xs_len: usize, out: *mut f32, out_len: usize);
+    fn aspeyruni_narrow_kind(x: f64) -> u32;
+    fn aspeyruni_narrow_list(xs: *const f64, xs_len: usize, out: *mut f32, out_len: usize)
+        -> usize;
     fn aspeyruni_forward(from: *const f32, from_len: usize, to: *mut f64, to_len: usize) -> u32;
-    fn aspeyruni_inverse(from: *const f64, from_len: usize, to: *mut f32, to_len: usize) -> u32;
+    fn aspeyruni_inverse(
+        from: *const f64,
+        from_len: usize,
+        to: *mut f32,
+        to_len: usize,
+    ) -> Inverted;
     fn aspeyruni_complex_forward(points: *mut f64, points_len: usize) -> u32;
     fn aspeyruni_complex_inverse(points: *mut f64, points_len: usize) -> u32;
 }
@@ -102,20 +110,43 @@ pub fn narrow_bits(x: f64) -> u32 {
     unsafe { aspeyruni_narrow_bits(x) }
 }
 
+/// What `narrow_kind` answers: what the f32 is to the number.
+pub mod kind {
+    /// Equal to it. An infinity is, and a NaN counts as if it were.
+    pub const EXACT: u32 = 0;
+    /// The nearest to it, which may be a zero.
+    pub const ROUNDED: u32 = 1;
+    /// An infinity, where the number is finite: 2^128 - 2^103 or more in size.
+    pub const OVER: u32 = 2;
+}
+
+pub fn narrow_kind(x: f64) -> u32 {
+    unsafe { aspeyruni_narrow_kind(x) }
+}
+
 /// A list: number k of `xs` narrowed to place k of `out`, as far as both go; the rest of `out` stays. Several numbers are narrowed at once.
-pub fn narrow_list(xs: &[f64], out: &mut [f32]) {
+/// It answers how many of them went over (`kind::OVER`).
+pub fn narrow_list(xs: &[f64], out: &mut [f32]) -> usize {
     let (to, to_len) = (out.as_mut_ptr(), out.len());
     unsafe { aspeyruni_narrow_list(xs.as_ptr(), xs.len(), to, to_len) }
 }
 
-/// 512 samples to 514 numbers, 257 bins real part then imaginary. It answers `refusal::ACCEPTED` or `BUFFER`, as do the three below.
+/// 512 samples to 514 numbers, 257 bins real part then imaginary. Its refusal is `ACCEPTED` or `BUFFER`, as is that of the three below.
 pub fn forward(samples: &[f32], spectrum: &mut [f64]) -> u32 {
     let (to, to_len) = (spectrum.as_mut_ptr(), spectrum.len());
     unsafe { aspeyruni_forward(samples.as_ptr(), samples.len(), to, to_len) }
 }
 
+/// How many of the inverse's 512 samples went over (`kind::OVER`); 0 where it is refused.
+#[repr(C)]
+#[derive(Clone, Copy, Debug, Default, PartialEq, Eq)]
+pub struct Inverted {
+    pub refusal: u32,
+    pub overs: usize,
+}
+
 /// And back.
-pub fn inverse(spectrum: &[f64], samples: &mut [f32]) -> u32 {
+pub fn inverse(spectrum: &[f64], samples: &mut [f32]) -> Inverted {
     let (to, to_len) = (samples.as_mut_ptr(), samples.len());
     unsafe { aspeyruni_inverse(spectrum.as_ptr(), spectrum.len(), to, to_len) }
 }
@@ -327,6 +358,18 @@ pub mod tau {
         pub double_talk: bool,
         pub outcome: u32,
         pub reason: u32,
+        /// For a box that clips: how many samples of the call's last block went over. Such a sample was a finite number, and became an
+        /// infinity as it was narrowed (`kind::OVER`) at the end of one of the block's inverse transforms. One that was infinite or a NaN
+        /// before that does not count.
+        ///
+        /// It is the sum over these transforms, with suppression and without: one for the estimate of each filter, one for each partition
+        /// where the shadow is updated, and one where the suppressor runs. Of each all 512 samples count, those too that the block drops;
+        /// so it is at most 512 * (P + 3). Where the output filter's estimate has one in the half that is used, that filter diverges, and
+        /// both are cleared.
+        ///
+        /// Expect 0. A call that fills no block says 0, and so do a flush of nothing and a refused call; of several blocks in a call it is
+        /// the last one's.
+        pub overs: u32,
         pub leak: f64,
     }
 
@@ -439,6 +482,7 @@ pub mod tau {
                 double_talk: state.mic.detector.double_talk,
                 outcome: outcome::NOT_RUN,
                 reason: reason::NO_BLOCK,
+                overs: 0,
                 leak: 0.0,
             }
         }

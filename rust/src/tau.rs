@@ -33,6 +33,9 @@ pub struct Report {
     pub outcome: Outcome,
     /// Why the output filter did not move in that block, or that it moved.
     pub reason: Reason,
+    /// For a box that clips: how many samples of that block went over, which is to say that they were finite numbers and became infinite as
+    /// f32s. Where no block ran it is 0. Which samples count stands at [`Answer::overs`].
+    pub overs: u32,
 }
 
 /// What a block did with the two filters: the shadow, which learns, and the output filter, which it delivers through.
@@ -262,6 +265,7 @@ impl Tau {
             double_talk: answer.double_talk,
             outcome: Outcome::of(answer.outcome, answer.leak),
             reason: Reason::of(answer.reason, answer.leak),
+            overs: answer.overs,
         })
     }
 }

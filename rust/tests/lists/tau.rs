@@ -179,7 +179,7 @@ impl Replay {
         let first = halves([answer.refusal as usize, answer.delivered]);
         let last = [first, answer.transfers, answer.divergence_resets];
         line.compare("raw", 41, &last);
-        line.compare("raw", 44, &because(answer.reason));
+        line.compare("raw", 44, &because(answer.reason, answer.overs));
         let outcome = outcome_of(answer.reason);
         assert_eq!(answer.outcome, outcome, "line {}", line.number);
     }
@@ -225,6 +225,7 @@ fn compare_report(line: &Line, report: Option<Report>) {
         double_talk: false,
         outcome: Outcome::NotRun,
         reason: Reason::NoBlock,
+        overs: 0,
     };
     let report = report.unwrap_or(nothing);
     let (outcome, leak) = match report.outcome {
@@ -238,14 +239,15 @@ fn compare_report(line: &Line, report: Option<Report>) {
     let delivered = halves([0, report.delivered]);
     let last = [delivered, report.transfers, report.divergence_resets];
     line.compare("its owner", 41, &last);
-    line.compare("its owner", 44, &because(report.reason.number()));
+    let because = because(report.reason.number(), report.overs);
+    line.compare("its owner", 44, &because);
     let outcome = report.reason.outcome();
     assert_eq!(report.outcome, outcome, "line {}", line.number);
 }
 
-/// Fields 44 to 46: the reason in the high half of the first, and of the rest nothing has a use yet.
-fn because(reason: u32) -> [u64; 3] {
-    [halves([reason as usize, 0]), 0, 0]
+/// Fields 44 to 46: the reason and how many samples went over in the halves of the first; the rest has no use yet.
+fn because(reason: u32, overs: u32) -> [u64; 3] {
+    [halves([reason as usize, overs as usize]), 0, 0]
 }
 
 /// By the numbers that the library has for both.
