@@ -199,6 +199,7 @@ fn numbers(answer: &Answer) -> Vec<u64> {
         answer.double_talk.into(),
         answer.outcome.into(),
         answer.reason.into(),
+        answer.overs.into(),
         bits(answer.leak),
         s.partitions as u64,
         s.carried as u64,
