@@ -254,9 +254,14 @@ impl Continued {
         Reason::of(&self.0.taken)
     }
 
+    /// The same, with what went over.
+    pub fn told(&self) -> Told {
+        Told::of(&self.0.taken)
+    }
+
     /// Whether an answer reports the same, with the reason and what went over.
     pub fn reports(&self, a: &Answer) -> bool {
-        let Told { reason, overs } = Told::of(&self.0.taken);
+        let Told { reason, overs } = self.told();
         (a.transfers, a.divergence_resets, a.double_talk) == self.report()
             && (a.reason, a.leak) == (reason.number(), reason.outcome().leak())
             && a.overs == overs
