@@ -42,12 +42,12 @@ impl List {
 }
 
 /// One number all over.
-fn one(x: f64) -> Recipe64 {
+pub fn one(x: f64) -> Recipe64 {
     Recipe64::noise(0, [x.to_bits(), 0])
 }
 
 /// One number alone, by its bits, and +0.0 all over else.
-fn alone(place: usize, mark: u64) -> Recipe64 {
+pub fn alone(place: usize, mark: u64) -> Recipe64 {
     Recipe64 {
         place: place as u64,
         mark,

@@ -3,6 +3,7 @@
 
 mod aspeyruni;
 mod block_borders;
+mod block_overs;
 mod block_reasons;
 mod branches;
 #[allow(dead_code)] // the Rust's text, whole
@@ -27,20 +28,21 @@ use branches::Counts;
 use inputs::{bits, halves, hash32, line, Random};
 use kinds::*;
 use recipe::Sounds;
-use tau_calls::Reason;
+use taken::Taken;
+use tau_calls::Told;
 use tau_lines::*;
 use tau_reference::{Seen, MOST_PARTITIONS};
 
 /// What a line comes to but for the state and the buffers.
 struct Got {
-    reason: Reason,
+    told: Told,
     block: [f32; BLOCK],
 }
 
 impl Got {
     fn nothing() -> Got {
         Got {
-            reason: Reason::NoBlock,
+            told: Told::NOTHING,
             block: [0.0; BLOCK],
         }
     }
@@ -54,7 +56,8 @@ struct List {
     shadow: Vec<f64>,
     output: Vec<f64>,
     spectra: Vec<f64>,
-    reason: Reason,
+    told: Told,
+    taken: Taken,
     counts: Counts,
 }
 
@@ -69,8 +72,9 @@ impl List {
 
     /// A line, by its fields 0 to 7 and what it comes to.
     fn line(&mut self, letter: char, given: [u64; 8], got: Got) {
-        self.reason = got.reason;
-        let outcome = got.reason.outcome();
+        self.told = got.told;
+        let Told { reason, overs } = got.told;
+        let outcome = reason.outcome();
         let answered = [
             outcome.number().into(),
             bits(outcome.leak()),
@@ -79,8 +83,8 @@ impl List {
         let n = self.lent();
         let buffers = [&self.shadow, &self.output, &self.spectra];
         let kept = tau_lines::fields(&self.state, buffers.map(|buffer| &buffer[..n]));
-        // the other half and the last field are kept for requests K8 and K10
-        let last = [halves([got.reason.number() as usize, 0]), 0];
+        // the last field is kept for request K10
+        let last = [halves([reason.number() as usize, overs as usize]), 0];
         let fields = given.iter().chain(&answered).chain(&kept).chain(&last);
         self.text += &line(letter, fields);
     }
@@ -158,8 +162,9 @@ impl List {
                 flushes: !adapt,
             });
             self.state = answer.state;
+            self.taken = taken;
             got = Got {
-                reason: answer.reason,
+                told: answer.told,
                 block: answer.block,
             };
         }
@@ -205,7 +210,8 @@ fn main() {
         shadow: buffer.clone(),
         output: buffer.clone(),
         spectra: buffer,
-        reason: Reason::NoBlock,
+        told: Told::NOTHING,
+        taken: Taken::default(),
         counts: Counts::none(),
     };
     silence(&mut list);
@@ -223,6 +229,7 @@ fn main() {
     samples(&mut list);
     block_borders::all(&mut list);
     block_reasons::all(&mut list);
+    block_overs::all(&mut list);
     list.counts.tell_all_taken();
     print!("{}", list.text);
 }

@@ -25,16 +25,16 @@ pub fn all(list: &mut List) {
 
 impl List {
     /// The last line's block has to give this reason, or the case is not what it is here for.
-    fn because(&self, reason: u32) {
-        assert_eq!(self.reason.number(), reason, "{:?}", self.reason);
+    pub fn because(&self, reason: u32) {
+        assert_eq!(self.told.reason.number(), reason, "{:?}", self.told);
     }
 
     /// So many blocks in one line.
-    fn blocks_of(&mut self, word: u64, near: Kind, far: Kind, gain: f32, count: usize) {
+    pub fn blocks_of(&mut self, word: u64, near: Kind, far: Kind, gain: f32, count: usize) {
         self.run('b', sounds_of(word, near, far, gain), BLOCK, count);
     }
 
-    fn flush_of(&mut self, word: u64, near: Kind, far: Kind, gain: f32, valid: usize) {
+    pub fn flush_of(&mut self, word: u64, near: Kind, far: Kind, gain: f32, valid: usize) {
         self.run('f', sounds_of(word, near, far, gain), valid, 1);
     }
 }

@@ -3,7 +3,7 @@
 #![allow(dead_code)] // a driver uses a part
 
 use crate::aspeyruni::tau::TauCanceller;
-use crate::taken::Taken;
+use crate::taken::{Inverse, Taken, INVERSES};
 use crate::tau_calls::{Outcome, Reason, REASONS};
 use crate::tau_reference::Seen;
 
@@ -73,6 +73,24 @@ const ALL: [&str; 62] = [
     "resets held",
 ];
 
+/// What went over in a block (request K8). All of it has to come from creation and from a foreign state.
+const OVERS: [&str; 14] = [
+    "over",
+    "over in step 2 alone",
+    "over in step 3 alone",
+    "over in steps 2 and 3",
+    "over in the update alone",
+    "over in the suppressor alone",
+    "over, the dropped half alone",
+    "over, the used half alone",
+    "over, both halves",
+    "over, one sample",
+    "over, suppression off",
+    "over, flush",
+    "over, nothing diverged",
+    "diverged, nothing over",
+];
+
 /// What one block was, for its branches.
 struct Ran<'a> {
     before: &'a TauCanceller,
@@ -88,6 +106,29 @@ impl Ran<'_> {
     fn diverged(&self) -> bool {
         let t = self.taken;
         t.shadow_diverged || t.update_diverged || t.diverged
+    }
+
+    fn went_over(&self, kind: &str) -> bool {
+        let t = self.taken;
+        let (all, over_in) = (t.all_overs(), t.over_in());
+        let dropped: u32 = INVERSES.iter().map(|i| t.dropped_in(*i)).sum();
+        match kind {
+            "over" => all > 0,
+            "over in step 2 alone" => over_in == [Inverse::Shadow],
+            "over in step 3 alone" => over_in == [Inverse::Output],
+            "over in steps 2 and 3" => over_in == [Inverse::Shadow, Inverse::Output],
+            "over in the update alone" => over_in == [Inverse::Gradient],
+            "over in the suppressor alone" => over_in == [Inverse::Suppressed],
+            "over, the dropped half alone" => all > 0 && dropped == all,
+            "over, the used half alone" => all > 0 && dropped == 0,
+            "over, both halves" => 0 < dropped && dropped < all,
+            "over, one sample" => all == 1,
+            "over, suppression off" => all > 0 && !self.after.suppress,
+            "over, flush" => all > 0 && self.flushes,
+            "over, nothing diverged" => all > 0 && !self.diverged(),
+            "diverged, nothing over" => all == 0 && self.diverged(),
+            _ => unreachable!(),
+        }
     }
 
     fn took(&self, branch: &str) -> bool {
@@ -193,6 +234,7 @@ struct Branches {
     counts: [[u32; 2]; ALL.len()],
     /// The same of the reasons, by their numbers. No block has the first.
     reasons: [[u32; 2]; REASONS.len()],
+    overs: [[u32; 2]; OVERS.len()],
 }
 
 impl Branches {
@@ -200,12 +242,16 @@ impl Branches {
         Branches {
             counts: [[0; 2]; ALL.len()],
             reasons: [[0; 2]; REASONS.len()],
+            overs: [[0; 2]; OVERS.len()],
         }
     }
 
     fn add(&mut self, ran: &Ran, is_foreign: bool) {
         for (branch, count) in ALL.iter().zip(&mut self.counts) {
             count[usize::from(is_foreign)] += u32::from(ran.took(branch));
+        }
+        for (kind, count) in OVERS.iter().zip(&mut self.overs) {
+            count[usize::from(is_foreign)] += u32::from(ran.went_over(kind));
         }
         self.reasons[ran.reason.number() as usize][usize::from(is_foreign)] += 1;
     }
@@ -220,15 +266,19 @@ impl Branches {
             let name = format!("reason {number}, {}", REASONS[number]);
             eprintln!("{name:40} {own:>9} {foreign:>9}");
         }
+        for (kind, [own, foreign]) in OVERS.iter().zip(self.overs) {
+            eprintln!("{kind:40} {own:>9} {foreign:>9}");
+        }
     }
 
-    /// A reason has to come from creation and from a foreign state, since every one can.
+    /// A reason, and what went over, has to come from creation and from a foreign state, since every one can.
     fn not_taken(&self) -> Vec<&'static str> {
         let all = ALL.iter().zip(self.counts);
         let branches = all.filter(|(_, count)| *count == [0, 0]);
         let reasons = REASONS.iter().zip(self.reasons).skip(1);
+        let from_both = reasons.chain(OVERS.iter().zip(self.overs));
         branches
-            .chain(reasons.filter(|(_, count)| count.contains(&0)))
+            .chain(from_both.filter(|(_, count)| count.contains(&0)))
             .map(|(name, _)| *name)
             .collect()
     }
@@ -257,7 +307,7 @@ impl Counts {
         let ran = Ran {
             before: seen.before,
             after: &seen.blocked.state,
-            reason: seen.blocked.reason,
+            reason: seen.blocked.told.reason,
             taken: seen.taken,
             far: seen.far,
             flushes: seen.flushes,

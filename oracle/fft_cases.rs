@@ -10,7 +10,8 @@
 //!
 //! In lower case a transform is run on noise, in upper case on a tone. The Rust lends no table: `g`
 //! and `j` have the answers of `f` and `i`, and `h` and `l` a half of `i`'s. It panics at a wrong length: that the answer is 2 and
-//! nothing is written is document 01's rule.
+//! nothing is written is document 01's rule. How many samples of an inverse went over is counted over all 512, by `h` and `l` too
+//! (oracle/rust).
 
 mod fft;
 mod inputs;
@@ -18,7 +19,7 @@ mod reference;
 
 use fft::{read_det_cos, read_det_sin, read_recombination};
 use inputs::{bits, hash, line, turned, Noise, DIGITS, SIGN, SIZES};
-use reference::{Reference, DONE, POINTS, SAMPLES, SPECTRUM, WRONG_LENGTH};
+use reference::{Inverted, Reference, DONE, POINTS, SAMPLES, SPECTRUM, WRONG_LENGTH};
 use std::f64::consts::PI;
 
 /// The size of the buffers, of which a case lends the first part.
@@ -73,6 +74,8 @@ struct List {
     text: String,
     rust: Reference,
     word: u64,
+    /// How many cases of an inverse there are in which no sample went over, in which some did, and all.
+    overs: [[usize; 3]; INVERSES.len()],
 }
 
 impl List {
@@ -88,7 +91,8 @@ impl List {
     /// A transform's case. Of what it leaves in its buffer, the numbers at `at` and the next are shown.
     fn case(&mut self, letter: char, recipe: Recipe, lengths: [usize; 2], at: usize) {
         let mut numbers = recipe.numbers();
-        let answer = self.run(letter, &mut numbers, lengths);
+        let Inverted { refusal, overs } = self.run(letter, &mut numbers, lengths);
+        self.count(letter, overs);
         let letter = match recipe {
             Recipe::Noise(_) => letter,
             Recipe::Tone(_) => letter.to_ascii_uppercase(),
@@ -97,6 +101,7 @@ impl List {
         let [given, room, place] = [lengths[0], lengths[1], at].map(|n| n as u64);
         let hash = hash(&numbers[..lengths[1]]);
         let (first, second) = (bits(numbers[at]), bits(numbers[at + 1]));
+        let answer = inputs::halves([overs, refusal as usize]);
         let fields = [
             a, b, c, d, e, given, room, place, answer, hash, first, second,
         ];
@@ -105,24 +110,30 @@ impl List {
 
     /// What the Rust answers. As in the program, the buffer that it writes holds the numbers before, narrowed
     /// where it is one of samples, and what it holds after comes back.
-    fn run(&mut self, letter: char, numbers: &mut [f64; COUNT], [given, room]: [usize; 2]) -> u64 {
+    fn run(
+        &mut self,
+        letter: char,
+        numbers: &mut [f64; COUNT],
+        [given, room]: [usize; 2],
+    ) -> Inverted {
         let mut samples = numbers.map(|x| x as f32);
-        let answer = match letter {
-            'f' | 'g' => self.rust.forward(&samples[..given], &mut numbers[..room]),
-            'c' => self.rust.complex_forward(&mut numbers[..given]),
-            'r' => self.rust.complex_inverse(&mut numbers[..given]),
+        let rust = &mut self.rust;
+        match letter {
+            'f' | 'g' => Inverted::of(rust.forward(&samples[..given], &mut numbers[..room])),
+            'c' => Inverted::of(rust.complex_forward(&mut numbers[..given])),
+            'r' => Inverted::of(rust.complex_inverse(&mut numbers[..given])),
             'i' | 'j' => {
-                let answer = self.rust.inverse(&numbers[..given], &mut samples[..room]);
+                let answer = rust.inverse(&numbers[..given], &mut samples[..room]);
                 *numbers = samples.map(f64::from);
                 answer
             }
             'h' | 'l' => {
                 let mut whole = [0.0; SAMPLES];
                 let answer = match room {
-                    HALF => self.rust.inverse(&numbers[..given], &mut whole),
-                    _ => WRONG_LENGTH,
+                    HALF => rust.inverse(&numbers[..given], &mut whole),
+                    _ => Inverted::of(WRONG_LENGTH),
                 };
-                if answer == DONE {
+                if answer.refusal == DONE {
                     let first = if letter == 'l' { HALF } else { 0 };
                     samples[..HALF].copy_from_slice(&whole[first..first + HALF]);
                 }
@@ -131,15 +142,36 @@ impl List {
             }
             _ => {
                 let answer = self.run('f', numbers, [given, SPECTRUM]);
-                if answer != DONE.into() {
+                if answer.refusal != DONE {
                     return answer;
                 }
-                return self.run('i', numbers, [SPECTRUM, room]);
+                self.run('i', numbers, [SPECTRUM, room])
             }
-        };
-        answer.into()
+        }
+    }
+
+    fn count(&mut self, letter: char, overs: usize) {
+        if let Some(place) = INVERSES.find(letter) {
+            let kind = match overs {
+                0 => 0,
+                SAMPLES => 2,
+                _ => 1,
+            };
+            self.overs[place][kind] += 1;
+        }
+    }
+
+    /// To standard error, with an end where a kind of inverse has no case with none over, with some, or with all.
+    fn tell(&self) {
+        for (letter, counts) in INVERSES.chars().zip(self.overs) {
+            eprintln!("{letter}, cases with none over, some, all: {counts:?}");
+            assert!(!counts.contains(&0));
+        }
     }
 }
+
+/// The letters that inverses have. Both ways, `b`, no finite sample goes over.
+const INVERSES: &str = "ijhl";
 
 /// The lengths that a letter's functions take.
 fn right(letter: char) -> [usize; 2] {
@@ -157,6 +189,7 @@ fn main() {
         text: String::new(),
         rust: Reference::new(),
         word: 0x2545_f491_4f6c_dd1d,
+        overs: [[0; 3]; INVERSES.len()],
     };
     to_look_at(&mut list);
     kinds(&mut list);
@@ -166,6 +199,8 @@ fn main() {
     angles(&mut list);
     halves(&mut list);
     one_bin(&mut list);
+    overs(&mut list);
+    list.tell();
     print!("{}", list.text);
 }
 
@@ -332,5 +367,36 @@ fn angles(list: &mut List) {
     for x in angles {
         let (cos, sin) = (bits(read_det_cos(x)), bits(read_det_sin(x)));
         list.line('a', [x.to_bits(), 0, 0, 0, 0, 0, 0, 0, 0, 0, cos, sin]);
+    }
+}
+
+/// 2^128 - 2^103, halfway between the largest f32 and the next that there would be.
+const BORDER: f64 = 340282356779733661637539395458142568448.0;
+
+/// How many samples go over (request K8). Of bin 0 alone all are that number over 512: at the border, of either sign, and beside it. Of
+/// noise about the largest f32 some do, and of one loud bin those about its peaks. Where sums are infinite some points are, which are not
+/// counted.
+fn overs(list: &mut List) {
+    let bin = |x: f64| Recipe::Noise([0, 0, 0, 0, bits(512.0 * x)]);
+    let border = [BORDER, -BORDER, BORDER.next_down(), -BORDER.next_down()];
+    for x in border
+        .into_iter()
+        .chain([BORDER.next_up(), f64::MAX / 512.0])
+    {
+        for letter in ['i', 'j', 'h', 'l'] {
+            list.case(letter, bin(x), right(letter), 0);
+        }
+    }
+    let sound = Noise::sound(0);
+    let loud = bits(1.25 * 2f64.powi(136));
+    for letter in ['i', 'j', 'h', 'l'] {
+        for [base, mask, place, mark] in [
+            [0x482 << 52, SIGN | DIGITS, NOWHERE, 0],
+            [sound.base, sound.mask, 7, loud],
+            [0x7fa << 52, SIGN | DIGITS, NOWHERE, 0],
+        ] {
+            let recipe = Recipe::Noise([list.seed(), base, mask, place, mark]);
+            list.case(letter, recipe, right(letter), 0);
+        }
     }
 }

@@ -14,6 +14,8 @@ pub const FULL: Kind = [0x7f << 23, SIGN32 | DIGITS32];
 pub const QUARTER: Kind = [0x7d << 23, SIGN32 | DIGITS32];
 pub const LOUD: Kind = [0x82 << 23, SIGN32 | DIGITS32];
 pub const FAINT: Kind = [0x6f << 23, SIGN32 | SIZES32 | DIGITS32];
+/// 2^30 to 2^31.
+pub const LOUDER: Kind = [0x9d << 23, SIGN32 | DIGITS32];
 /// The zeros and three subnormal sizes, all subnormal ones, and those up to 2^-111.
 pub const LEAST: Kind = [0, SIGN32 | 3];
 pub const SUBNORMAL: Kind = [0, SIGN32 | DIGITS32];

@@ -1,5 +1,5 @@
-//! Narrowing, the port against Rust's `as f32`: one number a call, its bits, and lists. Every number's bits are compared, NaN equal to
-//! NaN.
+//! Narrowing, the port against Rust's `as f32`: one number a call, its bits, its kind, and lists with how many went over. Every number's
+//! bits are compared, NaN equal to NaN.
 
 mod aspeyruni;
 mod inputs;
@@ -15,30 +15,93 @@ const GROUP: usize = 32;
 
 fn main() {
     let mut random = Random(0x9e37_79b9_7f4a_7c15);
-    let mut tally = Tally::default();
-    (0..NARROWED).for_each(|i| one(f64::from_bits(pattern(i, &mut random)), &mut tally));
-    tally.tell("narrow");
-    let mut tally = Tally::default();
-    borders().into_iter().for_each(|x| one(x, &mut tally));
-    tally.tell("narrow, borders");
+    let mut ones = Ones::default();
+    (0..NARROWED).for_each(|i| ones.one(f64::from_bits(pattern(i, &mut random))));
+    ones.tell("narrow");
+    let mut ones = Ones::default();
+    borders().into_iter().for_each(|x| ones.one(x));
+    ones.tell("narrow, borders");
     lists(&mut random).tell("narrow_list");
     border_lists().tell("narrow_list, borders");
 }
 
-fn one(x: f64, tally: &mut Tally) {
-    let there = x as f32;
-    tally.one(aspeyruni::narrow(x).into(), there.into());
-    tally.answer(aspeyruni::narrow_bits(x), bits32(there));
+/// The numbers, and the calls by their kind.
+#[derive(Default)]
+struct Ones {
+    numbers: Tally,
+    kinds: [Tally; 3],
 }
 
-/// In turn: any number; one of an f32's size, or a little more or less; one halfway between two normal
-/// f32s, or beside that; the same of subnormal ones.
+impl Ones {
+    fn one(&mut self, x: f64) {
+        let there = x as f32;
+        self.numbers.one(aspeyruni::narrow(x).into(), there.into());
+        self.numbers
+            .answer(aspeyruni::narrow_bits(x), bits32(there));
+        let kind = kind(x);
+        self.kinds[kind as usize].call(aspeyruni::narrow_kind(x) == kind);
+    }
+
+    fn tell(&self, name: &str) {
+        self.numbers.tell(name);
+        for (kind, tally) in ["exact", "rounded", "over"].iter().zip(&self.kinds) {
+            tally.tell_calls(&format!("{name}, {kind}"));
+        }
+    }
+}
+
+/// A NaN and the infinities are exact; a finite number that becomes infinite is over (request K8).
+fn kind(x: f64) -> u32 {
+    let narrowed = x as f32;
+    if !x.is_finite() || f64::from(narrowed) == x {
+        0
+    } else if narrowed.is_finite() {
+        1
+    } else {
+        2
+    }
+}
+
+/// The numbers of lists, and the lists by whether some went over.
+#[derive(Default)]
+struct Lists {
+    numbers: Tally,
+    overs: [Tally; 2],
+}
+
+impl Lists {
+    fn one(&mut self, list: &[f64], room: usize) {
+        let mut here = vec![0.25; room];
+        let mut there = here.clone();
+        let port = aspeyruni::narrow_list(list, &mut here);
+        let mut overs = 0;
+        for (x, y) in list.iter().zip(&mut there) {
+            *y = *x as f32;
+            overs += usize::from(kind(*x) == 2);
+        }
+        self.numbers.samples(&here, &there);
+        self.overs[usize::from(overs > 0)].call(port == overs);
+    }
+
+    fn tell(&self, name: &str) {
+        self.numbers.tell(name);
+        for (kind, tally) in ["none", "some"].iter().zip(&self.overs) {
+            tally.tell_calls(&format!("{name}, {kind} over"));
+        }
+    }
+}
+
+/// In turn: any number; one of an f32's size, or a little more or less, half of them f32s where these are normal; one halfway between two
+/// normal f32s, or beside that; the same of subnormal ones.
 fn pattern(i: u64, random: &mut Random) -> u64 {
     let word = random.word();
     let (sign, digits) = (word & SIGN, word & DIGITS);
     match i % 4 {
         0 => word,
-        1 => sign | (868 + random.word() % 289) << 52 | digits,
+        1 => {
+            let dropped = if i % 8 == 1 { 29 } else { 0 };
+            sign | (868 + random.word() % 289) << 52 | digits >> dropped << dropped
+        }
         2 => sign | halfway(897 + random.word() % 254, digits, 29) + i % 3 - 1,
         _ => {
             let exponent = 874 + random.word() % 23;
@@ -80,8 +143,8 @@ fn borders() -> Vec<f64> {
 
 /// Lists of none to three groups and more, of sound with some numbers of another kind among it, or of none but these. Where `out` is
 /// shorter the rest of the list is not narrowed, and where it is longer the rest of it stays.
-fn lists(random: &mut Random) -> Tally {
-    let mut tally = Tally::default();
+fn lists(random: &mut Random) -> Lists {
+    let mut lists = Lists::default();
     let mut narrowed = 0;
     while narrowed < NARROWED {
         let mut sound = Noise::sound(random.seed());
@@ -96,14 +159,14 @@ fn lists(random: &mut Random) -> Tally {
             })
             .collect();
         let room = random.one_of(&[length, length / 2, length + 5]);
-        listed(&list, room, &mut tally);
+        lists.one(&list, room);
         narrowed += length.min(room) as u64;
     }
-    tally
+    lists
 }
 
 /// Each border at each place of a group whose other numbers are alike, and at the place behind it.
-fn border_lists() -> Tally {
+fn border_lists() -> Lists {
     let others = [
         1.5,
         -1e-30,
@@ -115,25 +178,15 @@ fn border_lists() -> Tally {
         f64::INFINITY,
         f64::NAN,
     ];
-    let mut tally = Tally::default();
+    let mut lists = Lists::default();
     for x in borders() {
         for other in others {
             for place in 0..=GROUP {
                 let mut list = [other; GROUP + 1];
                 list[place] = x;
-                listed(&list, list.len(), &mut tally);
+                lists.one(&list, list.len());
             }
         }
     }
-    tally
-}
-
-fn listed(list: &[f64], room: usize, tally: &mut Tally) {
-    let mut here = vec![0.25; room];
-    let mut there = here.clone();
-    aspeyruni::narrow_list(list, &mut here);
-    for (x, y) in list.iter().zip(&mut there) {
-        *y = *x as f32;
-    }
-    tally.samples(&here, &there);
+    lists
 }

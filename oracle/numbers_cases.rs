@@ -7,6 +7,9 @@
 //!     n  narrow              r = a as f32
 //!     N  narrow_bits         r = the bits of a as f32
 //!     l  narrow_into         of a list of 33 numbers, c but for a at place b: r = a as f32, and in the high half c as f32
+//!     t  narrow_told         r = a as f32, and in the high half its kind: 0 exact, 1 rounded, 2 over
+//!     L  narrow_into         of such a list, b in halves: how many places are written, and the place; r = how many of the numbers that
+//!                            were narrowed went over
 //!     w  widen               r = a as f64, of an f32
 //!     a  abs, A abs32        r = a.abs()
 //!     i  min                 r = a.min(b)
@@ -145,6 +148,8 @@ fn main() {
     of_two(&mut list, &mut random);
     clamping(&mut list, &mut random);
     short_way(&mut list);
+    told(&mut list);
+    counted(&mut list);
     print!("{}", list.text);
 }
 
@@ -260,6 +265,80 @@ fn short_way(list: &mut List) {
             }
         }
     }
+}
+
+/// A NaN and the infinities are exact; a finite number that becomes infinite is over (request K8).
+fn kind(x: f64) -> u64 {
+    let narrowed = x as f32;
+    if !x.is_finite() || f64::from(narrowed) == x {
+        0
+    } else if narrowed.is_finite() {
+        1
+    } else {
+        2
+    }
+}
+
+/// Narrowing that tells, where the kind changes: 2^-150, 2^-149, 2^-126, the largest f32 and 2^128 - 2^103, with the numbers beside each,
+/// then 2^128 and the largest f64, of either sign; and of every border, the signs in turn.
+fn told(list: &mut List) {
+    let largest = f64::from(f32::MAX).to_bits();
+    let border = F64.pattern(1150, (1 << 52) - (1 << 28));
+    let [half, least, normal] = [873, 874, 897].map(|field| F64.pattern(field, 0));
+    let changes = [half, least, normal, largest, border];
+    let mut patterns: Vec<u64> = changes.iter().flat_map(|p| [p - 1, *p, p + 1]).collect();
+    patterns.extend([F64.pattern(1151, 0), F64.infinity() - 1]);
+    let negative: Vec<u64> = patterns.iter().map(|p| p | F64.sign()).collect();
+    patterns.extend(negative);
+    let turns = (0..).zip(borders());
+    patterns.extend(turns.map(|(turn, p)| p | turn % 2 * F64.sign()));
+    let mut kinds = [0; 3];
+    for p in patterns {
+        let x = f64::from_bits(p);
+        kinds[kind(x) as usize] += 1;
+        list.put('t', [p, 0, 0], kind(x) << 32 | bits32(x as f32));
+    }
+    eprintln!("narrow_told, exact, rounded, over: {kinds:?}");
+    assert!(!kinds.contains(&0));
+}
+
+/// Lists of which one number goes over, all but one, all, and none, as much of them as there is room for: one of those that are not
+/// narrowed is not counted.
+fn counted(list: &mut List) {
+    let border = f64::from_bits(F64.pattern(1150, (1 << 52) - (1 << 28)));
+    let some = [
+        border,
+        -border,
+        border.next_down(),
+        -2f64.powi(128),
+        f64::MAX,
+        f64::INFINITY,
+        f64::NAN,
+        1.5,
+    ];
+    let others = [1.5, -0.0, border, -f64::MAX, f64::NEG_INFINITY, 3e38];
+    let rooms = [33, 0, 33, 1, 33, 16, 33, 17, 33, 32];
+    let mut turn = 0;
+    let mut counts = HashSet::new();
+    for x in some {
+        for other in others {
+            for _ in 0..2 {
+                let (room, place) = (rooms[turn % rooms.len()], 7 * turn % 33);
+                let mut numbers = [other; 33];
+                numbers[place] = x;
+                let narrowed = numbers[..room].iter();
+                let overs = narrowed.filter(|x| kind(**x) == 2).count() as u64;
+                let b = (room as u64) << 32 | place as u64;
+                list.put('L', [x.to_bits(), b, other.to_bits()], overs);
+                counts.insert(overs);
+                turn += 1;
+            }
+        }
+    }
+    let mut counts: Vec<u64> = counts.into_iter().collect();
+    counts.sort();
+    eprintln!("narrow_into, counts: {counts:?}");
+    assert!([0, 1, 32, 33].iter().all(|count| counts.contains(count)));
 }
 
 /// 210 patterns: both signs of the least, the largest and some other digits at the exponents of

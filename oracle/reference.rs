@@ -12,6 +12,20 @@ pub const SAMPLES: usize = 512;
 pub const SPECTRUM: usize = 514;
 pub const POINTS: usize = 512;
 
+/// What a transform answers: an inverse, how many of its 512 samples went over besides (request K8).
+#[derive(Clone, Copy, Debug, PartialEq)]
+pub struct Inverted {
+    pub refusal: u32,
+    pub overs: usize,
+}
+
+impl Inverted {
+    /// Where none did.
+    pub fn of(refusal: u32) -> Inverted {
+        Inverted { refusal, overs: 0 }
+    }
+}
+
 pub struct Reference {
     pub real: RealFft,
     complex: ComplexFft,
@@ -35,14 +49,17 @@ impl Reference {
         DONE
     }
 
-    pub fn inverse(&mut self, spectrum: &[f64], out: &mut [f32]) -> u32 {
+    pub fn inverse(&mut self, spectrum: &[f64], out: &mut [f32]) -> Inverted {
         if spectrum.len() != SPECTRUM || out.len() != SAMPLES {
-            return WRONG_LENGTH;
+            return Inverted::of(WRONG_LENGTH);
         }
         let mut samples = Vec::new();
         self.real.inverse(&complexes(spectrum), &mut samples);
         out.copy_from_slice(&samples);
-        DONE
+        Inverted {
+            refusal: DONE,
+            overs: self.real.overs.iter().sum::<u32>() as usize,
+        }
     }
 
     pub fn complex_forward(&mut self, points: &mut [f64]) -> u32 {

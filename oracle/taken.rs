@@ -14,6 +14,22 @@ pub enum Test {
     HasAdvantage,
 }
 
+/// A block's inverse transforms: the shadow's in step 2, the output's in step 3, those of the update, and the suppressor's.
+#[derive(Clone, Copy, Debug, PartialEq)]
+pub enum Inverse {
+    Shadow,
+    Output,
+    Gradient,
+    Suppressed,
+}
+
+pub const INVERSES: [Inverse; 4] = [
+    Inverse::Shadow,
+    Inverse::Output,
+    Inverse::Gradient,
+    Inverse::Suppressed,
+];
+
 #[derive(Clone, Copy, Debug, Default)]
 pub struct Taken {
     /// The shadow in step 2 and in the update, and the output.
@@ -40,6 +56,8 @@ pub struct Taken {
     pub falling: bool,
     pub least_gain: bool,
     pub guarded: bool,
+    /// How many samples went over, by the inverse and by the half of its samples that they are in.
+    pub overs: [[u32; 2]; INVERSES.len()],
 }
 
 impl Taken {
@@ -49,6 +67,33 @@ impl Taken {
             self.failed = Some(test);
         }
         passes
+    }
+
+    /// As an inverse of the Rust counted them.
+    pub fn went_over(&mut self, inverse: Inverse, halves: [u32; 2]) {
+        let counts = self.overs[inverse as usize].iter_mut().zip(halves);
+        counts.for_each(|(count, more)| *count += more);
+    }
+
+    /// In one inverse, or in all those of the update.
+    pub fn overs_in(&self, inverse: Inverse) -> u32 {
+        self.overs[inverse as usize].iter().sum()
+    }
+
+    /// Of those, the ones that the block makes no use of.
+    pub fn dropped_in(&self, inverse: Inverse) -> u32 {
+        let half = usize::from(inverse == Inverse::Gradient);
+        self.overs[inverse as usize][half]
+    }
+
+    /// Those inverses in which some went over.
+    pub fn over_in(&self) -> Vec<Inverse> {
+        let is_over = |inverse: &Inverse| self.overs_in(*inverse) > 0;
+        INVERSES.into_iter().filter(is_over).collect()
+    }
+
+    pub fn all_overs(&self) -> u32 {
+        INVERSES.iter().map(|inverse| self.overs_in(*inverse)).sum()
     }
 
     pub fn gained(&mut self, is_rising: bool, is_least: bool) {

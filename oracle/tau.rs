@@ -81,6 +81,11 @@ const ODD: [f64; 14] = [
     f64::NAN,
 ];
 
+/// 0.5 and 1.0 all over, and the largest f32, of either sign.
+const HALF: Kind = [0x7e << 23, 0];
+const ONE: Kind = [0x7f << 23, 0];
+const LARGEST: Kind = [HUGE[0] | 0x7f_ffff, SILENCE[1]];
+
 /// What is heard for a while: near and far, each of its kind, and the gain of far's echo in near. No gain where it is +0.0.
 #[derive(Clone, Copy)]
 struct Scene {
@@ -199,6 +204,7 @@ fn numbers(answer: &Answer) -> Vec<u64> {
         answer.double_talk.into(),
         answer.outcome.into(),
         answer.reason.into(),
+        answer.overs.into(),
         bits(answer.leak),
         s.partitions as u64,
         s.carried as u64,
@@ -240,6 +246,8 @@ struct Tallies {
     answers: [Tally; 7],
     outcomes: [Tally; 4],
     reasons: [Tally; REASONS.len()],
+    /// What went over in the last block: nothing, something.
+    overs: [Tally; 2],
     samples: [Tally; STREAMS.len()],
     beyond: Tally,
     buffers: [Tally; 3],
@@ -262,6 +270,9 @@ impl Tallies {
             tally.tell_calls(&format!("tau report, {name}"));
         }
         self.tell_reasons();
+        for (name, tally) in ["none", "some"].iter().zip(&self.overs) {
+            tally.tell_calls(&format!("tau report, {name} over"));
+        }
         for ((partitions, _), tally) in STREAMS.iter().zip(&self.samples) {
             tally.tell(&format!("tau samples, P = {partitions}"));
         }
@@ -323,6 +334,9 @@ fn main() {
     both.streams(&STREAMS);
     both.is_by_blocks = true;
     both.streams(&STREAMS_BY_BLOCKS);
+    for partitions in [1, 2, 1, 2, 1, 2] {
+        both.behind_suppressor(partitions);
+    }
     both.tallies.tell();
     both.counts.tell();
     eprintln!("{} blocks", both.counts.blocks());
@@ -451,6 +465,22 @@ impl Both {
         self.hear(scene(SILENCE, FULL, 1.6e38), 84);
         self.plain(scene(SILENCE, LOUD, 0.0), BLOCK);
         self.hear(scene(SILENCE, FULL, 0.0), 4);
+    }
+
+    /// An echo of film that is one number all over, so that the suppressor takes off there alone, and near as loud as samples get, which
+    /// goes over behind it. And behind gains that no call leaves.
+    fn behind_suppressor(&mut self, partitions: usize) {
+        self.suppress = true;
+        self.buffers(partitions);
+        self.call(&Call::Create(partitions, true), self.rightly_lent());
+        self.plain(scene(HALF, ONE, 0.0), 100 * BLOCK);
+        self.plain(scene(LARGEST, ONE, 0.0), BLOCK);
+        self.plain(scene(HALF, ONE, 0.0), BLOCK);
+        let mut state = self.rust.state;
+        state.mic.suppressor.gain.fill(8.0);
+        self.set(state);
+        self.own_from_here();
+        self.plain(scene(HUGE, ONE, 0.0), BLOCK);
     }
 
     /// Joining muted, for longer than would establish the detector, and the echo after it.
@@ -607,13 +637,17 @@ impl Both {
                 self.rust.buffers[buffer] = numbers;
             }
         }
+        self.own_from_here();
+    }
+
+    /// The Rust's own engine from a state that was set, and from buffers.
+    fn own_from_here(&mut self) {
         self.counts.is_foreign = true;
         let lent = self.rightly_lent();
-        let (buffers, _) = {
-            self.rust.out.resize(lent.out, 0.0);
-            self.rust.lent(lent)
-        };
-        self.own = Continued::from(&s, buffers);
+        self.rust.out.resize(lent.out, 0.0);
+        let state = self.rust.state;
+        let (buffers, _) = self.rust.lent(lent);
+        self.own = Continued::from(&state, buffers);
     }
 
     /// One in so many of the numbers that are in no array.
@@ -705,6 +739,7 @@ impl Both {
             tallies.outcomes[rust.outcome as usize].call(is_same);
             let is_same = (port.reason, bits(port.leak)) == (rust.reason, bits(rust.leak));
             tallies.reasons[rust.reason as usize].call(is_same);
+            tallies.overs[usize::from(rust.overs > 0)].call(port.overs == rust.overs);
         }
         let (port, rust_side) = (&self.port, &self.rust);
         let (heard, wanted) = (&port.out, &rust_side.out);

@@ -39,11 +39,33 @@ pub const REASONS: [&str; reason::MOVED as usize + 1] = {
     words
 };
 
+/// What a report has of the last block alone: the reason, and how many samples of its inverse transforms went over (request K8).
+#[derive(Clone, Copy, Debug, PartialEq)]
+pub struct Told {
+    pub reason: Reason,
+    pub overs: u32,
+}
+
 #[derive(Clone, Copy, Debug)]
 pub struct Blocked {
     pub state: TauCanceller,
     pub block: [f32; BLOCK],
-    pub reason: Reason,
+    pub told: Told,
+}
+
+impl Told {
+    /// Where no block ran.
+    pub const NOTHING: Told = Told {
+        reason: Reason::NoBlock,
+        overs: 0,
+    };
+
+    pub fn of(taken: &Taken) -> Told {
+        Told {
+            reason: Reason::of(taken),
+            overs: taken.all_overs(),
+        }
+    }
 }
 
 impl Reason {
@@ -126,6 +148,7 @@ impl Started {
             double_talk: false,
             outcome: 0,
             reason: 0,
+            overs: 0,
             leak: 0.0,
         }
     }

@@ -20,6 +20,7 @@ mod rust_tau;
 mod taken;
 mod tau_calls;
 mod tau_lines;
+mod tau_overs;
 mod tau_reasons;
 mod tau_reference;
 
@@ -29,9 +30,10 @@ use branches::Counts;
 use inputs::{bits, halves, hash32, line, turned, Random};
 use kinds::*;
 use recipe::{Recipe, Sounds};
+use taken::Taken;
 use tau_calls::REASONS;
 use tau_lines::*;
-use tau_reference::Continued;
+use tau_reference::{Continued, Seen};
 
 /// The sizes of the program's buffers, of which a call is lent the first part.
 const MOST_NUMBERS: usize = 16456;
@@ -53,6 +55,10 @@ struct List {
     /// How many answers of process and flush there are by their reason, from creation and from a state that a line set, and the last.
     reasons: [[usize; 2]; REASONS.len()],
     reason: u32,
+    /// How many have something that went over, by the same, how many went over in the last, and the blocks of the last call.
+    over: [usize; 2],
+    overs: u32,
+    blocks: Vec<Taken>,
 }
 
 /// Those of the calls after so many pairs, which go on where the noise is.
@@ -79,6 +85,15 @@ fn lend<'a>([a, b, c]: &'a mut [Vec<f64>; 3], [i, j, k]: [usize; 3]) -> Lent<'a>
     [&mut a[..i], &mut b[..j], &mut c[..k]]
 }
 
+/// A call's blocks, counted and kept.
+fn watch<'a>(counts: &'a mut Counts, blocks: &'a mut Vec<Taken>) -> impl FnMut(Seen) + 'a {
+    blocks.clear();
+    |seen| {
+        blocks.push(seen.taken);
+        counts.see(seen);
+    }
+}
+
 impl List {
     fn seed(&mut self) -> u64 {
         self.random.word()
@@ -98,8 +113,8 @@ impl List {
             halves([answer.refusal as usize, answer.delivered]),
             answer.transfers,
             answer.divergence_resets,
-            // the other half and the last two are kept for requests K8 and K10
-            halves([answer.reason as usize, 0]),
+            halves([answer.reason as usize, answer.overs as usize]),
+            // these two are kept for request K10
             0,
             0,
         ];
@@ -109,7 +124,7 @@ impl List {
     }
 
     fn count(&mut self, letter: char, answer: &Answer) {
-        self.reason = answer.reason;
+        (self.reason, self.overs) = (answer.reason, answer.overs);
         if let Some(call) = "cpfr".find(letter) {
             self.calls[call] += 1;
             self.answers[answer.refusal as usize] += 1;
@@ -117,6 +132,7 @@ impl List {
         if "pf".contains(letter) {
             let foreign = usize::from(self.counts.is_foreign);
             self.reasons[answer.reason as usize][foreign] += 1;
+            self.over[foreign] += usize::from(answer.overs > 0);
         }
     }
 
@@ -165,10 +181,15 @@ impl List {
         let [near, far] = sounds.samples(MOST_PAIRS);
         let (near, far) = (&near[..given], &far[..heard]);
         let mut out = Recipe::noise(1, FULL).samples(room);
-        let counts = &mut self.counts;
         let lent = lend(&mut self.buffers, self.lent);
-        let mut watch = |seen: tau_reference::Seen| counts.see(seen);
-        let answer = tau_reference::process(&self.state, lent, near, far, &mut out, &mut watch);
+        let answer = tau_reference::process(
+            &self.state,
+            lent,
+            near,
+            far,
+            &mut out,
+            &mut watch(&mut self.counts, &mut self.blocks),
+        );
         let hash = hash32(&out);
         self.line('p', sounds.fields([given, heard]), room, answer, hash);
         if answer.refusal == 0 {
@@ -218,10 +239,13 @@ impl List {
 
     fn flush_in(&mut self, room: usize) {
         let mut out = Recipe::noise(1, FULL).samples(room);
-        let counts = &mut self.counts;
         let lent = lend(&mut self.buffers, self.lent);
-        let mut watch = |seen: tau_reference::Seen| counts.see(seen);
-        let answer = tau_reference::flush(&self.state, lent, &mut out, &mut watch);
+        let answer = tau_reference::flush(
+            &self.state,
+            lent,
+            &mut out,
+            &mut watch(&mut self.counts, &mut self.blocks),
+        );
         let hash = hash32(&out);
         self.line('f', [0; 8], room, answer, hash);
         if answer.refusal == 0 {
@@ -257,12 +281,19 @@ impl List {
 
     /// No call: an array, of which one number is of its own where the array has the place.
     fn make_with(&mut self, array: u64, kind: Kind, place: u64, mark: u64) {
-        let recipe = Recipe64 {
-            word: self.seed(),
-            kind,
-            place,
-            mark,
-        };
+        let word = self.seed();
+        self.make_by(
+            array,
+            Recipe64 {
+                word,
+                kind,
+                place,
+                mark,
+            },
+        );
+    }
+
+    fn make_by(&mut self, array: u64, recipe: Recipe64) {
         let mut state = self.state;
         recipe.make(array, &mut state, lend(&mut self.buffers, self.lent));
         let unanswered = Started { refusal: 0, state }.whole();
@@ -283,6 +314,8 @@ impl List {
         eprintln!("answers 0 to 6: {:?}", self.answers);
         eprintln!("reasons 0 to 9, own and foreign: {:?}", self.reasons);
         assert!(self.reasons.iter().flatten().all(|count| *count > 0));
+        let [own, foreign] = self.over;
+        eprintln!("answers with something over, own and foreign: {own}, {foreign}");
         let (blocks, bytes) = (self.counts.blocks(), self.text.len());
         eprintln!("{blocks} blocks, {bytes} bytes");
     }
@@ -308,6 +341,9 @@ fn main() {
         answers: [0; 7],
         reasons: [[0; 2]; REASONS.len()],
         reason: 0,
+        over: [0; 2],
+        overs: 0,
+        blocks: Vec::new(),
     };
     all(&mut list);
     list.tell();
@@ -352,6 +388,7 @@ fn all(list: &mut List) {
     refused_without_pairs(list);
     muted(list);
     tau_reasons::all(list);
+    tau_overs::all(list);
 }
 
 /// Creations over buffers that hold something, refused and not, and calls on the state that a refused one gives.

@@ -12,10 +12,11 @@ use crate::tau_reference;
 pub const LOW: Kind = [0x7b << 23, SIGN32 | DIGITS32];
 pub const LOWER: Kind = [0x78 << 23, SIGN32 | DIGITS32];
 
-/// Kinds of f64s, by base and mask: 2^-15 to 2 in size; the same, none negative; 2^1008 to 2^1023; subnormal; infinite or 1; NaN, not
-/// signalling (kinds.rs), or 1.5 to 2.
+/// Kinds of f64s, by base and mask: 2^-15 to 2 in size; the same, none negative; 2^113 to 2^129, about the largest f32; 2^1008 to 2^1023;
+/// subnormal; infinite or 1; NaN, not signalling (kinds.rs), or 1.5 to 2.
 pub const SOUND64: Kind = [0x3ff << 52, SIGN | SIZES | DIGITS];
 pub const POWER64: Kind = [0x3ff << 52, SIZES | DIGITS];
+pub const OVER64: Kind = [0x47f << 52, SIGN | SIZES | DIGITS];
 pub const LARGE64: Kind = [0x7fe << 52, SIGN | SIZES | DIGITS];
 pub const SUBNORMAL64: Kind = [0, SIGN | DIGITS];
 pub const INFINITE64: Kind = [0x7ff << 52, SIGN | 0x400 << 52];

@@ -24,7 +24,7 @@ pub fn all(list: &mut List) {
 
 impl List {
     /// The last call has to report this reason, or the case is not what it is here for.
-    fn because(&self, reason: u32) {
+    pub fn because(&self, reason: u32) {
         assert_eq!(self.reason, reason);
     }
 

@@ -11,7 +11,7 @@ use crate::config::Suppression;
 use crate::fft::Complex;
 use crate::rust_tau::TauCanceller as Engine;
 use crate::taken::Taken;
-use crate::tau_calls::{Blocked, Reason};
+use crate::tau_calls::{Blocked, Reason, Told};
 use crate::tau_lines::fields;
 
 pub const MOST_PARTITIONS: usize = 32;
@@ -63,10 +63,10 @@ pub fn process(
         refusal => refusal,
     };
     if refusal != 0 {
-        return answered(refusal, 0, state, Reason::NoBlock);
+        return answered(refusal, 0, state, Told::NOTHING);
     }
     let mut state = *state;
-    let mut last = Reason::NoBlock;
+    let mut last = Told::NOTHING;
     let mut delivered = 0;
     for (x, y) in near.iter().zip(far) {
         state.near_carry[state.carried] = finite_or_zero(*x);
@@ -78,7 +78,7 @@ pub fn process(
             let blocked = watched(&state, [&near, &far], BLOCK, false, &mut lent, watch);
             out[delivered..][..BLOCK].copy_from_slice(&blocked.block);
             delivered += BLOCK;
-            (state, last) = (blocked.state, blocked.reason);
+            (state, last) = (blocked.state, blocked.told);
         }
     }
     answered(0, delivered, &state, last)
@@ -92,7 +92,7 @@ pub fn flush(state: &TauCanceller, mut lent: Lent, out: &mut [f32], watch: Watch
         refusal => refusal,
     };
     if refusal != 0 || carried == 0 {
-        return answered(refusal, 0, state, Reason::NoBlock);
+        return answered(refusal, 0, state, Told::NOTHING);
     }
     let mut state = *state;
     state.carried = 0;
@@ -101,7 +101,7 @@ pub fn flush(state: &TauCanceller, mut lent: Lent, out: &mut [f32], watch: Watch
     far[carried..].fill(0.0);
     let blocked = watched(&state, [&near, &far], carried, true, &mut lent, watch);
     out[..carried].copy_from_slice(&blocked.block[..carried]);
-    answered(0, carried, &blocked.state, blocked.reason)
+    answered(0, carried, &blocked.state, blocked.told)
 }
 
 /// Refusals 6, 2. The carry is empty and all of it 0.0, as creation leaves it.
@@ -186,9 +186,9 @@ fn watched(
     blocked
 }
 
-/// The report is of the last block, and but for its reason, with the outcome, it is what the state says.
-fn answered(refusal: u32, delivered: usize, state: &TauCanceller, last: Reason) -> Answer {
-    let outcome = last.outcome();
+/// The report is of the last block, and but for its reason, with the outcome, and for what went over it is what the state says.
+fn answered(refusal: u32, delivered: usize, state: &TauCanceller, last: Told) -> Answer {
+    let outcome = last.reason.outcome();
     Answer {
         refusal,
         delivered,
@@ -197,7 +197,8 @@ fn answered(refusal: u32, delivered: usize, state: &TauCanceller, last: Reason) 
         divergence_resets: state.mic.divergence_resets,
         double_talk: state.mic.detector.double_talk,
         outcome: outcome.number(),
-        reason: last.number(),
+        reason: last.reason.number(),
+        overs: last.overs,
         leak: outcome.leak(),
     }
 }
@@ -253,11 +254,17 @@ impl Continued {
         Reason::of(&self.0.taken)
     }
 
-    /// Whether an answer reports the same, with the reason.
+    /// The same, with what went over.
+    pub fn told(&self) -> Told {
+        Told::of(&self.0.taken)
+    }
+
+    /// Whether an answer reports the same, with the reason and what went over.
     pub fn reports(&self, a: &Answer) -> bool {
-        let reason = self.reason();
+        let Told { reason, overs } = self.told();
         (a.transfers, a.divergence_resets, a.double_talk) == self.report()
             && (a.reason, a.leak) == (reason.number(), reason.outcome().leak())
+            && a.overs == overs
     }
 
     /// The state. Of the carry it keeps what waits alone: the rest is as in the state that it is held against.
@@ -306,7 +313,7 @@ pub fn run_block(
     let blocked = Blocked {
         state: read_state(&engine, [state.near_carry, state.far_carry], state.carried),
         block: array(&engine.output_block),
-        reason: Reason::of(&engine.taken),
+        told: Told::of(&engine.taken),
     };
     (blocked, engine.taken)
 }

@@ -1,4 +1,4 @@
-//! The transform, the port against the Rust: every number's bits, NaN equal to NaN.
+//! The transform, the port against the Rust: every number's bits, NaN equal to NaN, and how many samples of an inverse went over.
 
 mod aspeyruni;
 mod fft;
@@ -47,6 +47,13 @@ const LARGE: Kind = Kind::Bits(
     [0xfe << 23, SIGN32 | SIZES32 | DIGITS32],
 );
 const INFINITE: Kind = Kind::Bits([0x7ff << 52, SIGN], [0xff << 23, SIGN32]);
+
+/// Of inverses alone: f64s of which some samples go over, of which most do, and of which some points are infinite and not counted.
+const OVER: [Kind; 3] = [
+    Kind::Bits([0x482 << 52, SIGN | DIGITS], [0; 2]),
+    Kind::Bits([0x486 << 52, SIGN | DIGITS], [0; 2]),
+    Kind::Bits([0x7fa << 52, SIGN | DIGITS], [0; 2]),
+];
 
 const KINDS: [Kind; 11] = [
     SILENCE,
@@ -114,7 +121,7 @@ fn main() {
     let mut random = Random(0x9e37_79b9_7f4a_7c15);
     let mut rust = Reference::new();
     forward(&mut random, &mut rust).tell("forward");
-    inverse(&mut random, &mut rust).tell("inverse");
+    inverse(&mut random, &mut rust).tell();
     let forwards = (complex_forward as Port, Reference::complex_forward as Rust);
     complex(&mut random, &mut rust, forwards).tell("complex forward");
     let inverses = (complex_inverse as Port, Reference::complex_inverse as Rust);
@@ -139,33 +146,55 @@ fn forward(random: &mut Random, rust: &mut Reference) -> Tally {
     tally
 }
 
+/// The samples, and the calls by how many of them went over: none, some, and all.
+#[derive(Default)]
+struct Inverses {
+    samples: Tally,
+    overs: [Tally; 3],
+}
+
+impl Inverses {
+    fn tell(&self) {
+        self.samples.tell("inverse");
+        for (name, tally) in ["none", "some", "all"].iter().zip(&self.overs) {
+            tally.tell_calls(&format!("inverse, {name} over"));
+        }
+    }
+
+    fn one(&mut self, spectrum: &[f64; SPECTRUM], random: &mut Random, rust: &mut Reference) {
+        let mut here = random.samples(SOUND);
+        let mut there = here;
+        let port = aspeyruni::inverse(spectrum, &mut here);
+        let rust = rust.inverse(spectrum, &mut there);
+        self.samples.answer(port.refusal, rust.refusal);
+        self.samples.samples(&here, &there);
+        let kind = match rust.overs {
+            0 => 0,
+            SAMPLES => 2,
+            _ => 1,
+        };
+        self.overs[kind].call(port.overs == rust.overs);
+    }
+}
+
 /// Of numbers of each kind, and of what forward gives of such.
-fn inverse(random: &mut Random, rust: &mut Reference) -> Tally {
-    let mut tally = Tally::default();
+fn inverse(random: &mut Random, rust: &mut Reference) -> Inverses {
+    let mut inverses = Inverses::default();
     for kind in KINDS {
         for _ in 0..ROUNDS {
             let mut spectrum: [f64; SPECTRUM] = random.numbers(kind);
-            one_inverse(&spectrum, random, rust, &mut tally);
+            inverses.one(&spectrum, random, rust);
             rust.forward(&random.samples(kind), &mut spectrum);
-            one_inverse(&spectrum, random, rust, &mut tally);
+            inverses.one(&spectrum, random, rust);
         }
     }
-    tally
-}
-
-fn one_inverse(
-    spectrum: &[f64; SPECTRUM],
-    random: &mut Random,
-    rust: &mut Reference,
-    tally: &mut Tally,
-) {
-    let mut here = random.samples(SOUND);
-    let mut there = here;
-    tally.answer(
-        aspeyruni::inverse(spectrum, &mut here),
-        rust.inverse(spectrum, &mut there),
-    );
-    tally.samples(&here, &there);
+    for kind in OVER {
+        for _ in 0..ROUNDS {
+            let spectrum: [f64; SPECTRUM] = random.numbers(kind);
+            inverses.one(&spectrum, random, rust);
+        }
+    }
+    inverses
 }
 
 type Port = fn(&mut [f64]) -> u32;
@@ -204,7 +233,8 @@ fn refusals(random: &mut Random) -> Tally {
             if (given, room) != (SPECTRUM, SAMPLES) {
                 let mut out = short;
                 let answer = aspeyruni::inverse(&wide[..given], &mut out[..room]);
-                tally.answer(answer, WRONG_LENGTH);
+                tally.answer(answer.refusal, WRONG_LENGTH);
+                tally.call(answer.overs == 0);
                 tally.samples(&out, &short);
             }
             if given == room && given != POINTS {
