@@ -1,19 +1,25 @@
--- How many blocks had each reason, and the summary at the end of a run. Definitions only.
---     countedOf number counts       the counts after a block with this reason
---     Heading blocks t              t is how many blocks there were, behind a blank line where there were any
---     Row count number s t          t is s with a reason's row behind it, where blocks had it
---     Rows counts n s t             t is s with the rows of the reasons 1 to n behind it
---     Summary blocks counts t       t is the heading, and all rows
+-- How many blocks had each reason, in how many a sample went over, and the summary at the end of a run. Definitions only.
+--     countedOf number counts            one more under this number
+--     blockCounted number overs counts   the counts after a block with this reason and so many overs: number 10 is that of blocks with any
+--     Heading blocks t                   t is how many blocks there were, behind a blank line where there were any
+--     Row count number s t               t is s with a number's row behind it, where blocks had it
+--     Rows counts n s t                  t is s with the rows of the numbers 1 to n behind it
+--     Summary blocks counts t            t is the heading, and all rows
 use mathlib.Core.Path.{_≡_}
 use mathlib.Core.List.{List, [], _∷_, _++_}
 use Prim.Native.Nat.{ℕ, zero, suc, _<_}
+use lib.Dec.{eqb}
 use lib.ListN.{getD, set}
+use Rattle.laws.specs.Choice.{pick}
 use Rattle.laws.specs.Counting.{oneMore}
 use Rattle.text.specs.Text.{Appended}
 use Rattle.reasons.specs.Words.{wordsOf}
 
 abbrev pub countedOf : ℕ → List ℕ → List ℕ
 countedOf number counts = set counts number (oneMore (getD counts number 0))
+
+unfoldable pub blockCounted : ℕ → ℕ → List ℕ → List ℕ
+blockCounted number overs counts = pick (eqb overs 0) (countedOf number counts) (countedOf 10 (countedOf number counts))
 
 -- "0 blocks", " block" and " blocks", each with the line's end
 abbrev pub noneWords : List ℕ
@@ -45,7 +51,7 @@ pub record Row (count number : ℕ) (s t : List ℕ) : Type 0 where
   pub none : count ≡ 0 → t ≡ s
   pub some : 0 < count → Had count number s t
 
--- the rows of the reasons 1 to n, and behind them that of n + 1
+-- the rows of the numbers 1 to n, and behind them that of n + 1
 pub record Next (Before : List ℕ → Type 0) (count number : ℕ) (t : List ℕ) : Type 0 where
   pub above : List ℕ
   pub is-above : Before above
@@ -58,4 +64,4 @@ Rows counts (suc n) s t = Next (Rows counts n s) (getD counts (suc n) 0) (suc n)
 pub record Summary (blocks : ℕ) (counts t : List ℕ) : Type 0 where
   pub heading : List ℕ
   pub is-heading : Heading blocks heading
-  pub is-summary : Rows counts 9 heading t
+  pub is-summary : Rows counts 10 heading t

@@ -1,4 +1,4 @@
--- K2's words for the reasons, in ASCII, by the reason's number. Definitions only.
+-- K2's words for the reasons, in ASCII, by the reason's number, and K8's under 10, which no reason has. Definitions only.
 use mathlib.Core.List.{List, [], _∷_}
 use Prim.Native.Nat.{ℕ}
 use lib.Dec.{eqb}
@@ -43,6 +43,10 @@ advantageWords =
 abbrev pub movedWords : List ℕ
 movedWords = 109 ∷ 111 ∷ 118 ∷ 101 ∷ 100 ∷ []
 
+-- "went over"
+abbrev pub overWords : List ℕ
+overWords = 119 ∷ 101 ∷ 110 ∷ 116 ∷ 32 ∷ 111 ∷ 118 ∷ 101 ∷ 114 ∷ []
+
 unfoldable pub wordsOf : ℕ → List ℕ
 wordsOf number =
     pick (eqb number 1) flushWords
@@ -52,4 +56,5 @@ wordsOf number =
     (pick (eqb number 5) rescuedWords
     (pick (eqb number 6) quietWords
     (pick (eqb number 7) powerWords
-    (pick (eqb number 8) advantageWords movedWords)))))))
+    (pick (eqb number 8) advantageWords
+    (pick (eqb number 10) overWords movedWords))))))))

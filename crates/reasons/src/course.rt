@@ -1,4 +1,4 @@
-// Where a run is: how many blocks came, and the stretch of the last of them, blocks in a row with one reason.
+// Where a run is: how many blocks came, and the stretch of the last of them, blocks in a row with one reason and one number of overs.
 use tau_state::sums::one_more;
 ghost use mathlib.Core.Path.{_≡_};
 ghost use Rattle.reasons.specs.Course.{startOf, goesOn, afterOf, closedOf};
@@ -9,6 +9,7 @@ pub struct Course {
     pub first: u64,
     pub number: u32,
     pub leak: f64,
+    pub overs: u32,
 }
 
 pub fn start() -> Course
@@ -19,25 +20,29 @@ pub fn start() -> Course
         first: 0,
         number: 0,
         leak: 0.0,
+        overs: 0,
     }
 }
 
-// Whether a block with this reason is of the stretch: the leak is the same where its bits are.
-pub fn goes_on(c: Course, number: u32, leak: f64) -> bool
-    ensures { λ r. ⌜ r ≡ goesOn c number leak ⌝ }
+// Whether a block with this reason and so many overs is of the stretch: the leak is the same where its bits are.
+pub fn goes_on(c: Course, number: u32, leak: f64, overs: u32) -> bool
+    ensures { λ r. ⌜ r ≡ goesOn c number leak overs ⌝ }
 {
     if c.number != number {
+        return false;
+    }
+    if c.overs != overs {
         return false;
     }
     numbers::to_bits(c.leak) == numbers::to_bits(leak)
 }
 
 // After one block more.
-pub fn after(c: Course, number: u32, leak: f64) -> Course
-    ensures { λ r. ⌜ r ≡ afterOf c number leak ⌝ }
+pub fn after(c: Course, number: u32, leak: f64, overs: u32) -> Course
+    ensures { λ r. ⌜ r ≡ afterOf c number leak overs ⌝ }
 {
     let mut first = c.blocks;
-    if goes_on(c, number, leak) {
+    if goes_on(c, number, leak, overs) {
         first = c.first;
     }
     Course {
@@ -45,6 +50,7 @@ pub fn after(c: Course, number: u32, leak: f64) -> Course
         first,
         number,
         leak,
+        overs,
     }
 }
 
@@ -57,5 +63,6 @@ pub fn closed(c: Course) -> Course
         first: c.blocks,
         number: 0,
         leak: 0.0,
+        overs: 0,
     }
 }

@@ -1,4 +1,4 @@
-// How many blocks had each reason: ten counts, by the reason's number.
+// How many blocks had each reason, and in how many a sample went over: eleven counts, ten by the reason's number and the last of these.
 use crate::words::put_words;
 use tau_state::sums::one_more;
 use text::put;
@@ -6,9 +6,22 @@ use text::put_decimal;
 ghost use mathlib.Core.Path.{_≡_};
 ghost use Prim.Native.Nat.{_+_, _≤_, _<_};
 ghost use lib.ListN.{length, take};
-ghost use Rattle.reasons.specs.Tally.{countedOf, Heading, Row, Summary};
+ghost use Rattle.reasons.specs.Tally.{countedOf, blockCounted, Heading, Row, Summary};
 
-pub fn count(number: u32, counts: &mut [u64])
+// A block with this reason and so many overs.
+pub fn count_block(number: u32, overs: u32, counts: &mut [u64])
+    requires { ⌜ number < length (now counts) ⌝ }
+    requires { ⌜ length (now counts) ≡ 11 ⌝ }
+    ensures { λ _. ⌜ now (counts .exit) ≡ blockCounted number overs (now (counts .entry)) ⌝ }
+{
+    count(number, counts);
+    if overs == 0 {
+        return;
+    }
+    count(10, counts);
+}
+
+fn count(number: u32, counts: &mut [u64])
     requires { ⌜ number < length (now counts) ⌝ }
     ensures { λ _. ⌜ now (counts .exit) ≡ countedOf number (now (counts .entry)) ⌝ }
 {
@@ -16,16 +29,16 @@ pub fn count(number: u32, counts: &mut [u64])
     counts[at] = one_more(counts[at]);
 }
 
-// All blocks, and a row for each reason that came. The heading is 29 bytes at most, and each of nine rows 48.
+// All blocks, a row for each reason that came, and one of the blocks with overs. The heading is 29 bytes at most, and each of ten rows 48.
 pub fn put_summary(blocks: u64, counts: &[u64], out: &mut [u8]) -> usize
-    requires { ⌜ length (now counts) ≡ 10 ⌝ }
-    requires { ⌜ 461 ≤ length (now out) ⌝ }
-    ensures { λ r. ⌜ r ≤ 461 ⌝ }
+    requires { ⌜ length (now counts) ≡ 11 ⌝ }
+    requires { ⌜ 509 ≤ length (now out) ⌝ }
+    ensures { λ r. ⌜ r ≤ 509 ⌝ }
     ensures { λ r. ⌜ Summary blocks (now (counts .entry)) (take r (now (out .exit))) ⌝ }
 {
     let mut end = put_heading(blocks, out);
     let mut number = 0usize;
-    while number < 9 {
+    while number < 10 {
         number += 1;
         end = put_row(counts[number], number as u32, end, out);
     }

@@ -1,4 +1,4 @@
-// A reason in words.
+// A reason in words; and under 10, which no reason has, what is counted beside the reasons.
 use text::put;
 ghost use mathlib.Core.Path.{_≡_};
 ghost use mathlib.Core.List.{_++_};
@@ -20,6 +20,7 @@ pub fn put_words(number: u32, at: usize, line: &mut [u8]) -> usize
         6 => put(b"quiet streak below 6", at, line),
         7 => put(b"output power not above 0", at, line),
         8 => put(b"advantage not at least 0.1", at, line),
+        10 => put(b"went over", at, line),
         _ => put(b"moved", at, line),
     }
 }

@@ -11,7 +11,6 @@ use lib.Dec.{eqb}
 use lib.Ieee.{Float}
 use lib.ListN.{length, take, drop}
 use Rattle.laws.specs.Choice.{pick}
-use Rattle.tau_state.specs.Report.{reasonIn}
 use Rattle.reasons.specs.declared.course.Course.{Course}
 use Rattle.reasons.specs.Course.{startOf, closedOf}
 use Rattle.reasons.specs.Note.{courseAfter, countsAfter}
@@ -26,7 +25,7 @@ pub record Begun : Type 0 where
   pub engine : Engine
   pub course : Course
 
--- and how many blocks had each reason
+-- and how many blocks had each reason, and overs
 pub record Watched : Type 0 where
   pub engine : Engine
   pub course : Course
@@ -38,8 +37,8 @@ begunOf shadow output spectra = record { engine = begunBy (createOf 4 true shado
 -- what a call leaves, and what the block that it reports on adds
 abbrev pub toldBy : Watched → Fed → Watched
 toldBy w f =
-    let reason = reasonIn (f .answer .report .last) in
-    record { engine = leftBy f; course = courseAfter (w .course) reason; counts = countsAfter reason (w .counts) }
+    let last = f .answer .report .last in
+    record { engine = leftBy f; course = courseAfter (w .course) last; counts = countsAfter last (w .counts) }
 
 abbrev pub fedBy : Watched → List ℕ → Watched
 fedBy w s = toldBy w (fedOf (w .engine) s buffer)

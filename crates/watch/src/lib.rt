@@ -14,13 +14,11 @@ use reasons::note::put_reset;
 use reasons::note::put_stretch;
 use reasons::tally::put_summary;
 use tau::Answer;
-use tau_state::report::reason_of;
 use tau_state::state::TauCanceller;
 ghost use mathlib.Core.Path.{_≡_};
 ghost use mathlib.Core.Bool.{true};
 ghost use Prim.Native.Nat.{_≤_};
 ghost use lib.ListN.{length};
-ghost use Rattle.tau_state.specs.Report.{reasonIn};
 ghost use Rattle.reasons.specs.Note.{courseAfter, countsAfter};
 ghost use Rattle.watch.specs.Watched.{begunOf, fedBy, flushedBy, resetBy, piecesOf};
 
@@ -54,7 +52,7 @@ pub fn pairs(
     counts: &mut [u64],
 ) -> Watch
     requires { ⌜ w .state .carried ≤ 255 ⌝ }
-    requires { ⌜ length (now counts) ≡ 10 ⌝ }
+    requires { ⌜ length (now counts) ≡ 11 ⌝ }
     ensures { λ r. ⌜ r .state .carried ≤ 255 ⌝ }
     ensures { λ r. ⌜ (r .«is_written» ≡ true → record { engine = record { state = r .state; shadow = now (shadow .exit); output = now (output .exit); spectra = now (spectra .exit) }; course = r .course; counts = now (counts .exit) } ≡ piecesOf (length (now (bytes .entry))) (record { engine = record { state = w .state; shadow = now (shadow .entry); output = now (output .entry); spectra = now (spectra .entry) }; course = w .course; counts = now (counts .entry) }) (now (bytes .entry))) ⌝ }
 {
@@ -81,7 +79,7 @@ fn fed(
     counts: &mut [u64],
 ) -> Watch
     requires { ⌜ w .state .carried ≤ 255 ⌝ }
-    requires { ⌜ length (now counts) ≡ 10 ⌝ }
+    requires { ⌜ length (now counts) ≡ 11 ⌝ }
     ensures { λ r. ⌜ r .state .carried ≤ 255 ⌝ }
     ensures { λ r. ⌜ record { engine = record { state = r .state; shadow = now (shadow .exit); output = now (output .exit); spectra = now (spectra .exit) }; course = r .course; counts = now (counts .exit) } ≡ fedBy (record { engine = record { state = w .state; shadow = now (shadow .entry); output = now (output .entry); spectra = now (spectra .entry) }; course = w .course; counts = now (counts .entry) }) (now (piece .entry)) ⌝ }
 {
@@ -101,7 +99,7 @@ pub fn flush(
     counts: &mut [u64],
 ) -> Watch
     requires { ⌜ w .state .carried ≤ 255 ⌝ }
-    requires { ⌜ length (now counts) ≡ 10 ⌝ }
+    requires { ⌜ length (now counts) ≡ 11 ⌝ }
     ensures { λ r. ⌜ r .state .carried ≤ 255 ⌝ }
     ensures { λ r. ⌜ record { engine = record { state = r .state; shadow = now (shadow .exit); output = now (output .exit); spectra = now (spectra .exit) }; course = r .course; counts = now (counts .exit) } ≡ flushedBy (record { engine = record { state = w .state; shadow = now (shadow .entry); output = now (output .entry); spectra = now (spectra .entry) }; course = w .course; counts = now (counts .entry) }) ⌝ }
 {
@@ -114,15 +112,15 @@ pub fn flush(
 
 // What a call's report adds, and the line of a stretch that it ends.
 fn told(answer: Answer, course: Course, counts: &mut [u64]) -> Watch
-    requires { ⌜ length (now counts) ≡ 10 ⌝ }
+    requires { ⌜ length (now counts) ≡ 11 ⌝ }
     ensures { λ r. ⌜ r .state ≡ answer .state ⌝ }
-    ensures { λ r. ⌜ r .course ≡ courseAfter course (reasonIn (answer .report .last)) ⌝ }
-    ensures { λ r. ⌜ now (counts .exit) ≡ countsAfter (reasonIn (answer .report .last)) (now (counts .entry)) ⌝ }
+    ensures { λ r. ⌜ r .course ≡ courseAfter course (answer .report .last) ⌝ }
+    ensures { λ r. ⌜ now (counts .exit) ≡ countsAfter (answer .report .last) (now (counts .entry)) ⌝ }
 {
-    let mut line = [0u8; 111];
+    let mut line = [0u8; 143];
     let report = answer.report;
     let last = report.last;
-    let noted = note(course, reason_of(last), counts, &mut line);
+    let noted = note(course, last, counts, &mut line);
     let is_written = emit(&line, noted.end);
     let state = answer.state;
     let then = noted.course;
@@ -139,7 +137,7 @@ pub fn reset(w: Watch, shadow: &mut [f64], output: &mut [f64], spectra: &mut [f6
     ensures { λ r. ⌜ r .state .carried ≤ 255 ⌝ }
     ensures { λ r. ⌜ record { engine = record { state = r .state; shadow = now (shadow .exit); output = now (output .exit); spectra = now (spectra .exit) }; course = r .course } ≡ resetBy (record { state = w .state; shadow = now (shadow .entry); output = now (output .entry); spectra = now (spectra .entry) }) (w .course) ⌝ }
 {
-    let mut text = [0u8; 117];
+    let mut text = [0u8; 149];
     let state = w.state;
     let course = w.course;
     let end = put_reset(course, &mut text);
@@ -155,13 +153,13 @@ pub fn reset(w: Watch, shadow: &mut [f64], output: &mut [f64], spectra: &mut [f6
 
 // The last stretch and the summary, where all before them was written. Whether all was.
 pub fn finish(w: Watch, counts: &[u64]) -> bool
-    requires { ⌜ length (now counts) ≡ 10 ⌝ }
+    requires { ⌜ length (now counts) ≡ 11 ⌝ }
 {
     if !w.is_written {
         return false;
     }
-    let mut line = [0u8; 111];
-    let mut summary = [0u8; 461];
+    let mut line = [0u8; 143];
+    let mut summary = [0u8; 509];
     let course = w.course;
     let end = put_stretch(course, &mut line);
     let size = put_summary(course.blocks, counts, &mut summary);

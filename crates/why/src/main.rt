@@ -15,7 +15,7 @@ fn main() {
     let mut shadow = [0.0f64; 2056];
     let mut output = [0.0f64; 2056];
     let mut spectra = [0.0f64; 2056];
-    let mut counts = [0u64; 10];
+    let mut counts = [0u64; 11];
     let start = watch::start(&mut shadow, &mut output, &mut spectra);
     drive(start, &mut shadow, &mut output, &mut spectra, &mut counts);
 }
@@ -29,7 +29,7 @@ fn drive(
     counts: &mut [u64],
 )
     requires { ⌜ start .state .carried ≤ 255 ⌝ }
-    requires { ⌜ length (now counts) ≡ 10 ⌝ }
+    requires { ⌜ length (now counts) ≡ 11 ⌝ }
 {
     let mut block = [0u8; 2048];
     let mut watch = start;
@@ -56,7 +56,7 @@ fn finish(
     counts: &mut [u64],
 ) -> bool
     requires { ⌜ watch .state .carried ≤ 255 ⌝ }
-    requires { ⌜ length (now counts) ≡ 10 ⌝ }
+    requires { ⌜ length (now counts) ≡ 11 ⌝ }
 {
     if !watch.is_written {
         return false;

@@ -14,7 +14,7 @@ fn main() {
     let mut shadow = [0.0f64; 2056];
     let mut output = [0.0f64; 2056];
     let mut spectra = [0.0f64; 2056];
-    let mut counts = [0u64; 10];
+    let mut counts = [0u64; 11];
     let start = watch::start(&mut shadow, &mut output, &mut spectra);
     drive(start, &mut shadow, &mut output, &mut spectra, &mut counts);
 }
@@ -28,7 +28,7 @@ fn drive(
     counts: &mut [u64],
 )
     requires { ⌜ start .state .carried ≤ 255 ⌝ }
-    requires { ⌜ length (now counts) ≡ 10 ⌝ }
+    requires { ⌜ length (now counts) ≡ 11 ⌝ }
 {
     let mut block = [0u8; 36870];
     let mut input = record_input::start();
@@ -64,7 +64,7 @@ fn called(
     counts: &mut [u64],
 ) -> Watch
     requires { ⌜ watch .state .carried ≤ 255 ⌝ }
-    requires { ⌜ length (now counts) ≡ 10 ⌝ }
+    requires { ⌜ length (now counts) ≡ 11 ⌝ }
     ensures { λ r. ⌜ r .state .carried ≤ 255 ⌝ }
     ensures { λ r. ⌜ Called kind (now (payload .entry)) (record { engine = record { state = watch .state; shadow = now (shadow .entry); output = now (output .entry); spectra = now (spectra .entry) }; course = watch .course; counts = now (counts .entry) }) (r .«is_written») (record { engine = record { state = r .state; shadow = now (shadow .exit); output = now (output .exit); spectra = now (spectra .exit) }; course = r .course; counts = now (counts .exit) }) ⌝ }
 {
@@ -81,7 +81,7 @@ fn called(
 }
 
 fn finish(watch: Watch, counts: &[u64])
-    requires { ⌜ length (now counts) ≡ 10 ⌝ }
+    requires { ⌜ length (now counts) ≡ 11 ⌝ }
 {
     if !watch::finish(watch, counts) {
         record_input::say_failed_write(b"why");

@@ -19,7 +19,7 @@ at-of s c shadow output spectra counts = record { engine = record { state = s; s
 
 abbrev Inv-loop : tie.InvT-loop
 Inv-loop bytes shadow₀ output₀ spectra₀ counts₀ after₀ at₀ shadow output spectra counts after at =
-    (((at ≤ length bytes) × (after .state .carried ≤ 255)) × ((length shadow ≡ length shadow₀) × ((length output ≡ length output₀) × ((length spectra ≡ length spectra₀) × (length counts ≡ 10))))) × Going (at-of (after₀ .state) (after₀ .course) shadow₀ output₀ spectra₀ counts₀) bytes (at-of (after .state) (after .course) shadow output spectra counts) at
+    (((at ≤ length bytes) × (after .state .carried ≤ 255)) × ((length shadow ≡ length shadow₀) × ((length output ≡ length output₀) × ((length spectra ≡ length spectra₀) × (length counts ≡ 11))))) × Going (at-of (after₀ .state) (after₀ .course) shadow₀ output₀ spectra₀ counts₀) bytes (at-of (after .state) (after .course) shadow output spectra counts) at
 
 abbrev μ-loop : tie.MeasureT-loop
 μ-loop bytes shadow₀ output₀ spectra₀ counts₀ after₀ at₀ shadow output spectra counts after at =

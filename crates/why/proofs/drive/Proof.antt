@@ -11,7 +11,7 @@ use Rattle.why.proofs.drive.Tie as tie
 
 abbrev Inv-loop : tie.InvT-loop
 Inv-loop shadow₀ output₀ spectra₀ counts₀ block₀ watch₀ goes-on₀ turns₀ t12 t13 t14 shadow output spectra counts block watch goes-on turns =
-    ((watch .state .carried ≤ 255) × (length block ≡ 2048)) × ((length shadow ≡ length shadow₀) × ((length output ≡ length output₀) × ((length spectra ≡ length spectra₀) × (length counts ≡ 10))))
+    ((watch .state .carried ≤ 255) × (length block ≡ 2048)) × ((length shadow ≡ length shadow₀) × ((length output ≡ length output₀) × ((length spectra ≡ length spectra₀) × (length counts ≡ 11))))
 
 abbrev μ-loop : tie.MeasureT-loop
 μ-loop shadow₀ output₀ spectra₀ counts₀ block₀ watch₀ goes-on₀ turns₀ t12 t13 t14 shadow output spectra counts block watch goes-on turns =

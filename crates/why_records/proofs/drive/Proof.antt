@@ -12,7 +12,7 @@ use Rattle.why_records.proofs.drive.Tie as tie
 
 abbrev Inv-loop : tie.InvT-loop
 Inv-loop shadow₀ output₀ spectra₀ counts₀ block₀ input₀ watch₀ turns₀ t17 shadow output spectra counts block input watch turns =
-    ((watch .state .carried ≤ 255) × ((length block ≡ 36870) × Lies input block)) × ((length shadow ≡ length shadow₀) × ((length output ≡ length output₀) × ((length spectra ≡ length spectra₀) × (length counts ≡ 10))))
+    ((watch .state .carried ≤ 255) × ((length block ≡ 36870) × Lies input block)) × ((length shadow ≡ length shadow₀) × ((length output ≡ length output₀) × ((length spectra ≡ length spectra₀) × (length counts ≡ 11))))
 
 abbrev μ-loop : tie.MeasureT-loop
 μ-loop shadow₀ output₀ spectra₀ counts₀ block₀ input₀ watch₀ turns₀ t17 shadow output spectra counts block input watch turns =

@@ -16,6 +16,6 @@ after-spec =
     (λ c κs. search needs)
     (λ c. let s = c .before .before .before .args in
     let is = c .before .before .goes-on .ensures in
-    let first : c .before .if1 .first ≡ pick (goesOn (s .c) (s .number) (s .leak)) (s .c .first) (s .c .blocks) =
+    let first : c .before .if1 .first ≡ pick (goesOn (s .c) (s .number) (s .leak) (s .overs)) (s .c .first) (s .c .blocks) =
     ⊎-elim (λ a. pick-yes _ _ _ (sym is ∙ a .0 .taken) (a .1)) (λ a. pick-no _ _ _ (sym is ∙ a .0 .left) (a .1)) (c .before .if1 .came) in
-    λ i. record { blocks = c .one-more .ensures i; first = first i; number = s .number; leak = s .leak }))
+    λ i. record { blocks = c .one-more .ensures i; first = first i; number = s .number; leak = s .leak; overs = s .overs }))

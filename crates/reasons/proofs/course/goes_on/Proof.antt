@@ -13,7 +13,11 @@ unfolding goesOn
 goes-on-spec =
     tie.close
     (tie.spec
-    (λ c. pick-no _ _ _ (ne-eqb (c .before .before .args .c .number) (c .before .before .args .number) (search needs)) refl)
+    (λ c. let s = c .before .before .args in
+    pick-no _ _ _ (ne-eqb (s .c .number) (s .number) (search needs)) refl)
+    (λ c. let s = c .before .before .before .before .args in
+    pick-yes _ _ _ (eq-eqb (s .c .number) (s .number) (search needs)) (pick-no _ _ _ (ne-eqb (s .c .overs) (s .overs) (search needs)) refl))
     (λ c κs. search needs)
     (λ c κs. search needs)
-    (λ c. pick-yes _ _ _ (eq-eqb (c .before .before .before .before .args .c .number) (c .before .before .before .before .args .number) (search needs)) (λ i. eqb (c .before .to-bits .ensures i) (c .to-bits2 .ensures i))))
+    (λ c. let s = c .before .before .before .before .before .before .args in
+    pick-yes _ _ _ (eq-eqb (s .c .number) (s .number) (search needs)) (pick-yes _ _ _ (eq-eqb (s .c .overs) (s .overs) (search needs)) (λ i. eqb (c .before .to-bits .ensures i) (c .to-bits2 .ensures i)))))

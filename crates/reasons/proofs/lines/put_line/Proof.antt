@@ -21,23 +21,28 @@ put-line-spec =
     (λ c. search needs)
     (λ c κs. search needs)
     (λ c κs. search needs)
+    (λ c κs. search needs)
     (λ c. search needs)
     (λ c κs. search needs)
     (λ c. search needs)
-    (λ c. let at-why = c .before .before .before .before .before .before .before in
+    (λ c. let at-overs = c .before .before .before .before .before .before .before in
+    let at-why = at-overs .before .before .before .before in
     let at-colon = at-why .before .before .before .before in
     let at-blocks = at-colon .before .before .before .before .before in
     let asked = at-blocks .before .before .before .args in
     let blocks = at-blocks .put-blocks in
     let colon = at-colon .put in
     let why = at-why .put-why in
+    let overs = at-overs .put-overs in
     let end = c .before .before .put2 in (
-      omega (arith, blocks .ensures .0, colon .ensures .0, why .ensures .0, end .ensures .0),
+      omega (arith, blocks .ensures .0, colon .ensures .0, why .ensures .0, overs .ensures .0, end .ensures .0),
       record {
         named = take (blocks .result) (blocks .last .1 .1 .0);
         said = take (why .result) (why .last .1 .1 .1 .0);
+        counted = take (overs .result) (overs .last .1 .1 .0);
         is-named = blocks .ensures .1;
         is-said = why-behind (asked .number) (asked .leak) (colon .ensures .1) (why .ensures .1);
+        is-counted = overs .ensures .1;
         is-line = end .ensures .1;
       },
     )))

@@ -1,4 +1,4 @@
--- `reasons::tally::put_summary` meets its contract: after n turns the rows of the reasons 1 to n stand behind the heading. Assumes nothing.
+-- `reasons::tally::put_summary` meets its contract: after n turns the rows of the numbers 1 to n stand behind the heading. Assumes nothing.
 use mathlib.Core.Path.{_≡_, refl, sym, subst}
 use mathlib.Core.List.{List}
 use Prim.Native.Nat.{ℕ, suc, _+_, _*_, _-_, _≤_}
@@ -26,7 +26,7 @@ next {blocks} {counts} n {s} {t} g r =
     subst (λ (k : ℕ). Going blocks counts k t) (sym (add-one n))
     (record { heading = g .heading; is-heading = g .is-heading; is-rows = record { above = s; is-above = g .is-rows; is-row = row } })
 
-done : {blocks : ℕ} {counts : List ℕ} {n : ℕ} {t : List ℕ} → Going blocks counts n t → n ≤ 9 → 9 ≤ n → Summary blocks counts t
+done : {blocks : ℕ} {counts : List ℕ} {n : ℕ} {t : List ℕ} → Going blocks counts n t → n ≤ 10 → 10 ≤ n → Summary blocks counts t
 done {counts = counts} {t = t} g l m = record {
   heading = g .heading;
   is-heading = g .is-heading;
@@ -35,11 +35,11 @@ done {counts = counts} {t = t} g l m = record {
 
 abbrev Inv-loop : tie.InvT-loop
 Inv-loop blocks counts out₀ end₀ number₀ out end number =
-    (length out ≡ length out₀) × ((number ≤ 9) × (end ≤ 29 + 48 * number)) × Going blocks counts number (take end out)
+    (length out ≡ length out₀) × ((number ≤ 10) × (end ≤ 29 + 48 * number)) × Going blocks counts number (take end out)
 
 abbrev μ-loop : tie.MeasureT-loop
 μ-loop blocks counts out₀ end₀ number₀ out end number =
-    9 - number
+    10 - number
 
 pub put-summary-spec : {M : Type 1} → statement M
 put-summary-spec =
