@@ -19,6 +19,7 @@ numbersOf a = record {
   «double_talk» = a .report .«double_talk»;
   outcome = numberOf (a .report .outcome);
   reason = reasonNumber (reasonIn (a .report .last));
+  overs = a .report .overs;
   leak = leakIn (a .report .outcome);
 }
 

@@ -3,6 +3,7 @@
 mod record_calls;
 mod tau_calls;
 
+use fft::Inverted;
 pub use record_calls::aspeyruni_record_read;
 pub use record_calls::aspeyruni_record_write;
 use rho::Answer;
@@ -16,6 +17,7 @@ ghost use Rattle.numbers.specs.Promises.{Narrow, NarrowBits};
 ghost use Rattle.complex_fft.specs.Promises.{ComplexForward, ComplexInverse};
 ghost use Rattle.narrow_list.specs.Promises.{NarrowInto};
 ghost use Rattle.fft.specs.Promises.{Forward, Inverse};
+ghost use Rattle.capi.specs.Promises.{NarrowKind};
 ghost use Rattle.rho.specs.Promises.{Create, Process, Flush, Reset};
 
 #[no_mangle]
@@ -32,10 +34,20 @@ pub extern "C" fn aspeyruni_narrow_bits(x: f64) -> u32
     numbers::narrow_bits(x)
 }
 
-// xs number by number into the first places of out, as many as both have.
+// What narrowing does to x: 0 nothing, 1 it rounds it, 2 it makes a finite number infinite.
 #[no_mangle]
-pub extern "C" fn aspeyruni_narrow_list(xs: &[f64], out: &mut [f32])
-    ensures { λ _. ⌜ NarrowInto (now (xs .entry)) (now (out .entry)) (now (out .exit)) ⌝ }
+pub extern "C" fn aspeyruni_narrow_kind(x: f64) -> u32
+    ensures { λ r. ⌜ NarrowKind x r ⌝ }
+{
+    let told = numbers::narrow_told(x);
+    let kind = told.kind;
+    numbers::kind_number(kind)
+}
+
+// xs number by number into the first places of out, as many as both have. How many of them went over.
+#[no_mangle]
+pub extern "C" fn aspeyruni_narrow_list(xs: &[f64], out: &mut [f32]) -> usize
+    ensures { λ r. ⌜ NarrowInto (now (xs .entry)) (now (out .entry)) r (now (out .exit)) ⌝ }
 {
     narrow_list::narrow_into(xs, out)
 }
@@ -48,9 +60,9 @@ pub extern "C" fn aspeyruni_forward(input: &[f32], out: &mut [f64]) -> u32
     fft::forward(input, out)
 }
 
-// 514 numbers to 512 samples. 0, or 2 with nothing written where a length is wrong.
+// 514 numbers to 512 samples. 0, or 2 with nothing written where a length is wrong; and how many of the samples went over.
 #[no_mangle]
-pub extern "C" fn aspeyruni_inverse(spectrum: &[f64], out: &mut [f32]) -> u32
+pub extern "C" fn aspeyruni_inverse(spectrum: &[f64], out: &mut [f32]) -> Inverted
     ensures { λ r. ⌜ Inverse (now (spectrum .entry)) (now (out .entry)) r (now (out .exit)) ⌝ }
 {
     fft::inverse(spectrum, out)

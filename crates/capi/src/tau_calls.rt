@@ -4,6 +4,7 @@ use tau::Unreported;
 use tau_state::report::leak_of;
 use tau_state::report::number;
 use tau_state::report::outcome_of;
+use tau_state::report::overs_of;
 use tau_state::report::reason_number;
 use tau_state::report::reason_of;
 use tau_state::state::TauCanceller;
@@ -14,7 +15,8 @@ ghost use Rattle.capi.specs.Tau.{numbersOf};
 ghost use Rattle.capi.specs.Promises.{TauProcess, TauFlush};
 
 // What process and flush answer, and then their report. The outcome: 0 no block run, 1 no move, 2 a rescue, 3 a move. The reason: 0 to 9,
-// as `reason_number` has them. The leak is that of a move, and 0.0 where there is none.
+// as `reason_number` has them. The overs: how many samples of the last block's inverse transforms went over. The leak is that of a move, and
+// 0.0 where there is none.
 #[repr(C)]
 pub struct TauAnswer {
     pub refusal: u32,
@@ -25,6 +27,7 @@ pub struct TauAnswer {
     pub double_talk: bool,
     pub outcome: u32,
     pub reason: u32,
+    pub overs: u32,
     pub leak: f64,
 }
 
@@ -46,6 +49,7 @@ fn numbers_of(a: Unreported) -> TauAnswer
         double_talk: detector.double_talk,
         outcome: number(outcome),
         reason: reason_number(reason),
+        overs: overs_of(last),
         leak: leak_of(outcome),
     }
 }

@@ -23,9 +23,10 @@ use Rattle.tau_block.specs.declared.block.DeliveredRest.{DeliveredRest}
 pub filter-few : (first : Checked) {checked : Checked} {a b c d e f : List Float} {u : Suppressor} (ring : Ring) (near : List Float) (mic : Mic) (shadow output : List Float)
     → filteredOf first checked a b u c d e f ≡ filtered ring near mic shadow output → (first .overs ≤ 512) × (checked .overs ≤ 512)
 unfolding filtered
-filter-few first ring near mic shadow output h =
-    (subst (λ (n : ℕ). n ≤ 512) (sym (ap (λ (z : Filtered). z .shadowOvers) h)) (shadowed-few _ _ _ _ _),
-    subst (λ (n : ℕ). n ≤ 512) (sym (ap (λ (z : Filtered). z .output .overs) h)) (estimated-few _ _ _ _ _ _ _))
+filter-few first ring near mic shadow output h = (
+  subst (λ (n : ℕ). n ≤ 512) (sym (ap (λ (z : Filtered). z .shadowOvers) h)) (shadowed-few _ _ _ _ _),
+  subst (λ (n : ℕ). n ≤ 512) (sym (ap (λ (z : Filtered). z .output .overs) h)) (estimated-few _ _ _ _ _ _ _),
+)
 
 pub update-few : {u : UpdatedRest} {a b : List Float} (runs : Bool) (ring : Ring) (error : List Float) (scale : Float) (means : List Float) (paths : Paths) (resets : ℕ) (shadow : List Float)
     → updatedOf u a b ≡ updated runs ring error scale means paths resets shadow → u .overs ≤ 512 * (ring .partitions)

@@ -1,4 +1,4 @@
--- `capi::tau_calls::numbers_of` has the report's numbers: the outcome's and the reason's, and the leak. Assumes nothing.
+-- `capi::tau_calls::numbers_of` has the report's numbers: the outcome's and the reason's, the overs and the leak. Assumes nothing.
 use Rattle.tau_state.specs.Report.{reportOf}
 use borrow.Author.Needs.{needs}
 use Rattle.capi.proofs.tau_calls.numbers_of.Statement.{statement}
@@ -14,5 +14,6 @@ numbers-of-spec =
     (λ c κs. search needs)
     (λ c κs. search needs)
     (λ c κs. search needs)
-    (λ c. let numbered = c .before .before in
-    rw (c .leak-of .ensures, c .before .reason-number .ensures, numbered .number .ensures, numbered .before .outcome-of .ensures, numbered .before .before .reason-of .ensures)))
+    (λ c κs. search needs)
+    (λ c. let numbered = c .before .before .before in
+    rw (c .leak-of .ensures, c .before .overs-of .ensures, c .before .before .reason-number .ensures, numbered .number .ensures, numbered .before .outcome-of .ensures, numbered .before .before .reason-of .ensures)))

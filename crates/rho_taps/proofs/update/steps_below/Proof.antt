@@ -27,4 +27,4 @@ steps-below-spec =
     (λ c. search needs)
     (λ c. search needs)
     (λ c κs. search needs)
-    (λ c. let g = c .before .before .before .before .products-below in let m : length (g .result) ≡ 32 = search needs in narrowed _ (g .result) _ refl m (g .ensures) (c .before .narrow-into .ensures)))
+    (λ c. let g = c .before .before .before .before .products-below in let m : length (g .result) ≡ 32 = search needs in narrowed _ (g .result) _ refl m (g .ensures) (c .before .narrow-into .ensures .0)))

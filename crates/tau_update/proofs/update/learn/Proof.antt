@@ -58,9 +58,14 @@ learn-spec =
     let at-gradient = at-constrain .before .before .before .before .before in
     let at-slot-of = at-gradient .before .before .before in
     let at-loop = at-slot-of .before .before in
-    let r = at-constrain .constrain .ensures in
-    (search needs, search needs, ap length (r .0) ∙ length-constrained _, omega (arith, at-constrain .constrain .kept, at-loop .loop .inv .3), r .1 .0,
-    iter-next _ _ _ (at-loop .loop .inv .5)
-    (learnt-turn _ _ _ _ _ _ _ _ _ (at-slot-of .slot-of .ensures .0) (part-is 514 _ _ _ refl) (at-gradient .gradient .ensures) (r .0) (part-is 514 _ _ _ refl) (stepped .0) (stepped .1) (with-is 514 _ _ _ _ refl) (r .1 .1))))
+    let r = at-constrain .constrain .ensures in (
+      search needs,
+      search needs,
+      ap length (r .0) ∙ length-constrained _,
+      omega (arith, at-constrain .constrain .kept, at-loop .loop .inv .3),
+      r .1 .0,
+      iter-next _ _ _ (at-loop .loop .inv .5)
+          (learnt-turn _ _ _ _ _ _ _ _ _ (at-slot-of .slot-of .ensures .0) (part-is 514 _ _ _ refl) (at-gradient .gradient .ensures) (r .0) (part-is 514 _ _ _ refl) (stepped .0) (stepped .1) (with-is 514 _ _ _ _ refl) (r .1 .1)),
+    ))
     (λ c. search needs)
     (λ c. iter-end _ _ _ _ (c .before .loop .inv .5) (omega arith) (omega arith)))
