@@ -25,7 +25,7 @@ use Rattle.numbers.proofs.Plain.{plain-is, plain-rounded, plain-number, plain-f
 use Rattle.numbers.proofs.Ordered.{lesser-above, lt-number}
 use Rattle.numbers.proofs.Ranged.{power-add}
 use Rattle.numbers.proofs.Squares.{sum-below}
-use Rattle.narrow_list.specs.Lanes.{lesserOf, laneOf, gathered}
+use Rattle.narrow_list.specs.Lanes.{lesserOf, lane, tree, laneOf, gathered}
 use Rattle.narrow_list.specs.Short.{Fit, squareOf}
 use Rattle.narrow_list.proofs.Lanes.{all}
 
@@ -67,26 +67,24 @@ high-fits : T (fits binary64 highSquare)
 unfolding fits
 high-fits = tt
 
-module _ (q : List Float) (powers : (k : ℕ) → k < 32 → Power (getD q k nan)) where
-  pub each-below : lt (gathered (add binary64) q) highSquare ≡ true → (k : ℕ) → k < 32 → lt (getD q k nan) highSquare ≡ true
-  each-below high =
-      all (add binary64) Power (λ x. lt x highSquare ≡ true) (λ x y a b. power-add binary64 a b) (sum-below binary64 highSquare tt high-fits)
-      (λ k. getD q k nan) (laneOf (add binary64) q) powers (λ k l. refl) high
+pub each-below : (x s : ℕ → Float) → ((k : ℕ) → k < 32 → Power (x k)) → ((k : ℕ) → k < 8 → s k ≡ lane (add binary64) x k) → lt (tree (add binary64) s) highSquare ≡ true
+    → (k : ℕ) → k < 32 → lt (x k) highSquare ≡ true
+each-below = all (add binary64) Power (λ y. lt y highSquare ≡ true) (λ y z a b. power-add binary64 a b) (sum-below binary64 highSquare tt high-fits)
 
-  module _ (h : plainSquares (gathered lesserOf q) (gathered (add binary64) q) ≡ true) where
-    low : T (le lowSquare (gathered lesserOf q))
-    unfolding plainSquares
-    low = and-l (le lowSquare (gathered lesserOf q)) (lt (gathered (add binary64) q) highSquare) (subst T (sym h) tt)
+module _ (q : List Float) (powers : (k : ℕ) → k < 32 → Power (getD q k nan)) (h : plainSquares (gathered lesserOf q) (gathered (add binary64) q) ≡ true) where
+  low : T (le lowSquare (gathered lesserOf q))
+  unfolding plainSquares
+  low = and-l (le lowSquare (gathered lesserOf q)) (lt (gathered (add binary64) q) highSquare) (subst T (sym h) tt)
 
-    below : (k : ℕ) → k < 32 → lt (getD q k nan) highSquare ≡ true
-    unfolding plainSquares
-    below = each-below (is-true _ (and-r (le lowSquare (gathered lesserOf q)) (lt (gathered (add binary64) q) highSquare) (subst T (sym h) tt)))
+  below : (k : ℕ) → k < 32 → lt (getD q k nan) highSquare ≡ true
+  unfolding plainSquares
+  below = each-below (λ k. getD q k nan) (laneOf (add binary64) q) powers (λ k l. refl) (is-true _ (and-r (le lowSquare (gathered lesserOf q)) (lt (gathered (add binary64) q) highSquare) (subst T (sym h) tt)))
 
-    above : (k : ℕ) → k < 32 → T (le lowSquare (getD q k nan))
-    above =
-        all lesserOf (λ x. T (not (isNan x))) (λ x. T (le lowSquare x)) (λ x y a b. pick-if (λ z. T (not (isNan z))) (lt x y) (λ e. a) (λ e. b)) (λ x y a b. lesser-above lowSquare x y tt a b)
-        (λ k. getD q k nan) (laneOf lesserOf q) (λ k l. lt-number (getD q k nan) highSquare (below k l)) (λ k l. refl) low
+  above : (k : ℕ) → k < 32 → T (le lowSquare (getD q k nan))
+  above =
+      all lesserOf (λ x. T (not (isNan x))) (λ x. T (le lowSquare x)) (λ x y a b. pick-if (λ z. T (not (isNan z))) (lt x y) (λ e. a) (λ e. b)) (λ x y a b. lesser-above lowSquare x y tt a b)
+      (λ k. getD q k nan) (laneOf lesserOf q) (λ k l. lt-number (getD q k nan) highSquare (below k l)) (λ k l. refl) low
 
-    pub each-plain : (k : ℕ) → k < 32 → plainSquares (getD q k nan) (getD q k nan) ≡ true
-    unfolding plainSquares
-    each-plain k l = is-true _ (and-i (le lowSquare (getD q k nan)) (lt (getD q k nan) highSquare) (above k l) (subst T (sym (below k l)) tt))
+  pub each-plain : (k : ℕ) → k < 32 → plainSquares (getD q k nan) (getD q k nan) ≡ true
+  unfolding plainSquares
+  each-plain k l = is-true _ (and-i (le lowSquare (getD q k nan)) (lt (getD q k nan) highSquare) (above k l) (subst T (sym (below k l)) tt))

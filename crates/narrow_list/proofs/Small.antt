@@ -18,10 +18,10 @@ use lib.ListN.{length, getD}
 use Rattle.laws.specs.Choice.{lt-or-ge}
 use Rattle.numbers.specs.Finite.{plus}
 use Rattle.numbers.specs.Narrowing.{highSquare}
-use Rattle.numbers.specs.Ranges.{one, Power}
+use Rattle.numbers.specs.Ranges.{one}
 use Rattle.numbers.proofs.Overs.{small-stays}
 use Rattle.numbers.proofs.Ranged.{power-square}
-use Rattle.narrow_list.specs.Lanes.{gathered}
+use Rattle.narrow_list.specs.Lanes.{lane, tree}
 use Rattle.narrow_list.specs.Overs.{overCount, scaledBy}
 use Rattle.narrow_list.specs.Short.{squareOf}
 use Rattle.narrow_list.proofs.Fits.{each-below}
@@ -34,22 +34,19 @@ both a b h = let t = subst T (sym h) tt in (is-true a (and-l a b t), is-true b (
 abbrev pub Small : List Float → ℕ → Type 0
 Small xs n = (k : ℕ) → k < n → lt (squareOf (getD xs k nan)) highSquare ≡ true
 
-pub small-more : (xs q : List Float) (at : ℕ) (small : Bool) (total : Float) → (small ≡ true → Small xs at)
-    → ((k : ℕ) → k < 32 → getD q k nan ≡ squareOf (getD xs (at + k) nan)) → total ≡ gathered (add binary64) q → (small && lt total highSquare) ≡ true → Small xs (at + 32)
-small-more xs q at small total before squares sum h k l = go (lt-or-ge k at)
+pub small-more : (xs : List Float) (s : ℕ → Float) (at : ℕ) (small : Bool) (total : Float) → (small ≡ true → Small xs at)
+    → ((k : ℕ) → k < 8 → s k ≡ lane (add binary64) (λ j. squareOf (getD xs (at + j) nan)) k) → total ≡ tree (add binary64) s → (small && lt total highSquare) ≡ true → Small xs (at + 32)
+small-more xs s at small total before lanes sum h k l = go (lt-or-ge k at)
   where
-    powers : (k : ℕ) → k < 32 → Power (getD q k nan)
-    powers k l = subst Power (sym (squares k l)) (power-square binary64 _)
-
-    below : lt (gathered (add binary64) q) highSquare ≡ true
+    below : lt (tree (add binary64) s) highSquare ≡ true
     below = subst (λ (x : Float). lt x highSquare ≡ true) sum (both small (lt total highSquare) h .1)
 
     go : (k < at) ⊎ (at ≤ k) → lt (squareOf (getD xs k nan)) highSquare ≡ true
     go (inl b) = before (both small (lt total highSquare) h .0) k b
     go (inr b) =
         let e : at + (k - at) ≡ k = omega arith in
-        let j : k - at < 32 = omega arith in
-        subst (λ (i : ℕ). lt (squareOf (getD xs i nan)) highSquare ≡ true) e (subst (λ (x : Float). lt x highSquare ≡ true) (squares (k - at) j) (each-below q powers below (k - at) j))
+        subst (λ (i : ℕ). lt (squareOf (getD xs i nan)) highSquare ≡ true) e
+        (each-below (λ j. squareOf (getD xs (at + j) nan)) s (λ k l. power-square binary64 _) lanes below (k - at) (omega arith))
 
 -- ---- a scale
 

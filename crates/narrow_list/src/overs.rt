@@ -1,15 +1,15 @@
 // How many numbers of a list would go over, where nobody needs the narrowed ones.
 use crate::over_one;
-use crate::squares;
-use crate::sum;
+use crate::total;
 use numbers::HIGH_SQUARE;
 use numbers::narrow_told;
 ghost use mathlib.Core.Path.{_≡_};
 ghost use mathlib.Core.Bool.{true};
-ghost use Prim.Native.Nat.{ℕ, _<_};
-ghost use lib.Ieee.{nan, lt};
+ghost use Prim.Native.Nat.{ℕ, _+_, _≤_, _<_};
+ghost use lib.Ieee.{nan, binary64, add, lt};
 ghost use lib.ListN.{length, getD};
 ghost use Rattle.numbers.specs.Narrowing.{highSquare};
+ghost use Rattle.narrow_list.specs.Lanes.{lane};
 ghost use Rattle.narrow_list.specs.Overs.{overCount, scaledBy};
 ghost use Rattle.narrow_list.specs.Promises.{OversScaled};
 ghost use Rattle.narrow_list.specs.Short.{squareOf};
@@ -34,11 +34,29 @@ fn all_small(xs: &[f64]) -> bool
     let mut small = true;
     let mut at = 0usize;
     while 32 <= n - at {
-        let q = squares(xs, at);
-        small = small & (sum(&q) < HIGH_SQUARE);
+        let s = square_sums(xs, at);
+        small = small & (total(&s) < HIGH_SQUARE);
         at += 32;
     }
     small & (at == n)
+}
+
+// Eight sums of four squares. Not by way of the squares: they are not needed here.
+fn square_sums(xs: &[f64], at: usize) -> [f64; 8]
+    requires { ⌜ at + 32 ≤ length (now xs) ⌝ }
+    ensures { λ r. ⌜ ((k : ℕ) → k < 8 → getD r k nan ≡ lane (add binary64) (λ j. squareOf (getD (now (xs .entry)) (at + j) nan)) k) ⌝ }
+{
+    let mut s = [0.0f64; 8];
+    let mut k = 0usize;
+    while k < 8 {
+        let a = xs[at + k];
+        let b = xs[at + (k + 8)];
+        let c = xs[at + (k + 16)];
+        let d = xs[at + (k + 24)];
+        s[k] = (a * a + b * b) + (c * c + d * d);
+        k += 1;
+    }
+    s
 }
 
 fn count_scaled(xs: &[f64], scale: f64) -> usize

@@ -141,21 +141,6 @@ abs-rest (inf false) l h = refl
 abs-rest (fin true m e) l h = absurd (abs-rest-fin (m * up e * 1) (0 * down e) (zero-mul (down e)) l h)
 abs-rest (fin false m e) l h = refl
 
--- ---- finite: below the infinity and above the other one
-
-pub finite-is : (x : Float) → lt x (inf false) ≡ true → lt (inf true) x ≡ isFinite x
-unfolding lt isFinite
-finite-is nan h = refl
-finite-is (inf true) h = refl
-finite-is (inf false) h = absurd (true≢false (sym h))
-finite-is (fin s m e) h = refl
-
-pub not-finite : (x : Float) → lt x (inf false) ≡ false → false ≡ isFinite x
-unfolding lt isFinite
-not-finite nan h = refl
-not-finite (inf s) h = refl
-not-finite (fin s m e) h = absurd (true≢false h)
-
 -- ---- which patterns of a format are a NaN's: with the sign's bit taken off, those above the infinity's
 
 pub bits-nan : (f : Format) (n : ℕ) → ones f * hid f < n % top f → ofBits f n ≡ nan

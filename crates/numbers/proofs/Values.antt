@@ -4,22 +4,24 @@
 --     sub-zero      x - 0.0 is x, at every x, -0.0 included
 --     mul-value, sub-value    a product and a difference of numbers that are known as fractions, before they are rounded
 --     rescale       from one fraction to another of the same size
+--     finite-is     x - x is 0.0 exactly where x is finite
 use mathlib.Core.Path.{_≡_, refl, sym, ap, _∙_, subst}
 use Prim.Native.Nat.{ℕ, zero, suc, _+_, _-_, _*_, _/_, _%_, _^_, _≤_, _<_, zero-le}
-use native.Mathlib.Nat.{le-of-eq, le-of-lt, lt-of-lt-of-le, lt-of-not-le, lt-irrefl, add-comm, add-zero, mul-assoc, mul-comm, mul-right-comm, mul-mul-mul-comm, mul-one, mul-pos, mul-sub, zero-mul, mul-lt-mul-of-pos-right, lt-of-mul-lt-mul-right, eq-of-mul-eq-mul-right, sub-zero as nat-sub-zero}
+use native.Mathlib.Nat.{le-of-eq, le-of-lt, lt-of-lt-of-le, lt-of-not-le, lt-irrefl, add-comm, add-zero, mul-assoc, mul-comm, mul-right-comm, mul-mul-mul-comm, mul-one, mul-pos, mul-sub, zero-mul, mul-lt-mul-of-pos-right, lt-of-mul-lt-mul-right, eq-of-mul-eq-mul-right, sub-zero as nat-sub-zero, le-refl, sub-self}
 use native.Mathlib.Omega.{arith}
 use mathlib.Core.Bool.{Bool, true, false, not, _&&_, cond}
 use lib.Dec.{T, ltb, leb, eqb, ltb→lt, leb→le, eqb→eq}
 use lib.IntN.{ℤ, pos, negsuc}
 use lib.Pow.{pow-add, pow-pos, pow-lt, shl-lt}
 use borrow.Author.Tests.{lt-ltb, le-ltb}
-use lib.Ieee.{Float, nan, inf, fin, Format, prec, emax, low, hid, top, unlike, up, down, size, round, sum, neg, add, sub, mul, fits, ofBits, toBits}
+use lib.Ieee.{Float, nan, inf, fin, Format, prec, emax, low, hid, top, unlike, up, down, size, round, sum, neg, add, sub, mul, fits, ofBits, toBits, eq}
 use lib.Ieee.Fits.{round-fits, and-l, and-r, down-pos}
 use lib.Ieee.Bits.{ofBits-toBits}
 use lib.Ieee.Exact.{HasValue, round-exact}
 use lib.Ieee.Nearest.{div-same}
 use lib.Ieee.Scale.{round-same}
 use Rattle.numbers.proofs.Tests.{plain}
+use Rattle.numbers.specs.Finite.{isFinite}
 
 -- ---- a value is known by its sign and its size
 
@@ -156,3 +158,21 @@ rescale (fin t m e) s w l num den p h v = (
       ∙ ap (λ (x : ℕ). x * down e) (sym h)
       ∙ mul-right-comm num l (down e)),
 )
+
+-- ---- x - x
+
+zero-to : (f : Format) (c : ℕ) → 0 < c → T (fits f (fin false 0 (pos 0))) → round f false 0 c ≡ fin false 0 (pos 0)
+zero-to f c C h = round-to f false 0 (pos 0) 0 c C h (ap (λ (z : ℕ). z * c) (zero-mul 1) ∙ zero-mul c ∙ sym (zero-mul 1))
+
+-- two sizes that are one, the second taken off
+pub less-itself : (f : Format) (s : Bool) (a c : ℕ) → 0 < c → T (fits f (fin false 0 (pos 0))) → sum f s a (not s) a c ≡ fin false 0 (pos 0)
+unfolding sum
+less-itself f true a c C h = rw (le-ltb a a (le-refl a), sub-self a) (zero-to f c C h)
+less-itself f false a c C h = rw (le-ltb a a (le-refl a), sub-self a) (zero-to f c C h)
+
+pub finite-is : (f : Format) (x : Float) → T (fits f (fin false 0 (pos 0))) → eq (sub f x x) (fin false 0 (pos 0)) ≡ isFinite x
+unfolding sub add neg eq isFinite
+finite-is f nan h = refl
+finite-is f (inf true) h = refl
+finite-is f (inf false) h = refl
+finite-is f (fin s m e) h = ap (λ (z : Float). eq z (fin false 0 (pos 0))) (less-itself f s (m * up e * down e) (down e * down e) (mul-pos (down-pos e) (down-pos e)) h)

@@ -1,4 +1,5 @@
 -- `narrow_list::sum` meets its contract. Assumes nothing.
+use mathlib.Core.Path.{_∙_}
 use borrow.Author.Needs.{needs}
 use lib.Ieee.{binary64, add}
 use Rattle.narrow_list.proofs.Lanes.{tree-same}
@@ -10,12 +11,5 @@ sum-spec =
     tie.close
     (tie.spec
     (λ c κs. search needs)
-    (λ c. search needs)
-    (λ c. search needs)
-    (λ c. search needs)
-    (λ c. search needs)
-    (λ c. search needs)
-    (λ c. search needs)
-    (λ c. search needs)
-    (λ c. search needs)
-    (λ c. tree-same (add binary64) _ _ (c .sums .ensures)))
+    (λ c κs. search needs)
+    (λ c. c .total .ensures ∙ tree-same (add binary64) _ _ (c .before .before .sums .ensures)))

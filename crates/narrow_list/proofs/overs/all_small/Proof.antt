@@ -6,8 +6,8 @@ use native.Mathlib.Omega.{arith}
 use borrow.Author.Needs.{needs}
 use borrow.Author.Tests.{eqb-true}
 use lib.Dec.{eqb}
-use lib.Ieee.{ofBits}
-use lib.ListN.{length}
+use lib.Ieee.{nan, ofBits}
+use lib.ListN.{length, getD}
 use Rattle.narrow_list.proofs.Small.{Small, both, small-more}
 use Rattle.narrow_list.proofs.overs.all_small.Statement.{statement}
 use Rattle.narrow_list.proofs.overs.all_small.Tie as tie
@@ -29,10 +29,11 @@ all-small-spec =
     (λ c κs. search needs)
     (λ c. search needs)
     (λ c. search needs)
-    (λ c. let at-squares = c .before .before in
-    let at-loop = at-squares .before .before in
+    (λ c. let at-sums = c .before .before in
+    let at-loop = at-sums .before .before in
     let at = at-loop .loop in
-    (omega arith, small-more (at-loop .before .before .args .xs .now) (at-squares .squares .result) (at .at) (at .small) (c .sum .result) (at .inv .1) (at-squares .squares .ensures) (c .sum .ensures)))
+    (omega arith, small-more (at-loop .before .before .args .xs .now) (λ k. getD (at-sums .square-sums .result) k nan) (at .at) (at .small) (c .total .result) (at .inv .1) (at-sums .square-sums .ensures) (c .total .ensures)))
     (λ c h k l. let at = c .before .loop in
-    let t = both (at .small) (eqb (at .at) (length (c .before .before .before .args .xs .now))) h in
-    let e : at .at ≡ length (c .before .before .before .args .xs .now) = eqb-true (at .at) (length (c .before .before .before .args .xs .now)) (t .1) in at .inv .1 (t .0) k (omega (arith, e, l))))
+    let n = length (c .before .before .before .args .xs .now) in
+    let t = both (at .small) (eqb (at .at) n) h in
+    let e : at .at ≡ n = eqb-true (at .at) n (t .1) in at .inv .1 (t .0) k (omega (arith, e, l))))
