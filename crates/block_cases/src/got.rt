@@ -9,7 +9,7 @@ use tau_state::report::reason_number;
 use tau_state::state::TauCanceller;
 
 // What a line comes to, but for the lent buffers: where there is a step as it says, the state, and the last block's outcome and reason by
-// their numbers, its leak's bits and its samples' hash.
+// their numbers, its leak's bits, its samples' hash and how many of its inverses' samples went over.
 pub struct Got {
     pub is_known: bool,
     pub state: TauCanceller,
@@ -17,6 +17,7 @@ pub struct Got {
     pub leak: u64,
     pub hash: u64,
     pub reason: u64,
+    pub overs: u64,
 }
 
 pub fn after(b: Blocked) -> Got {
@@ -32,6 +33,7 @@ pub fn after(b: Blocked) -> Got {
         leak: numbers::to_bits(leak_of(outcome)),
         hash: hash_of_block(block),
         reason: reason_number(reason) as u64,
+        overs: told.overs as u64,
     }
 }
 
@@ -45,6 +47,7 @@ pub fn kept(state: TauCanceller) -> Got {
         leak: 0,
         hash: hash_of_block(block),
         reason: 0,
+        overs: 0,
     }
 }
 
@@ -57,6 +60,7 @@ pub fn unknown(state: TauCanceller) -> Got {
         leak: 0,
         hash: 0,
         reason: 0,
+        overs: 0,
     }
 }
 
@@ -69,7 +73,7 @@ pub fn fields_of(got: Got, shadow: u64, output: u64, spectra: u64) -> [u64; 31] 
 
 // Field 39.
 pub fn because(got: Got) -> u64 {
-    halves(got.reason, 0)
+    halves(got.reason, got.overs)
 }
 
 fn hash_of_block(samples: [f32; 256]) -> u64 {

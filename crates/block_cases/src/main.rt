@@ -7,7 +7,7 @@
 //     9         its leak, and 0 where it is no move
 //     10        the hash of what it delivers, all 256 samples; where none is run, of zeros
 //     11 to 38  the state and the three buffers, as many of a buffer's numbers as the partitions have (crate `tau_lines`)
-//     39        halves: the reason of the last block, 0 to 9 as `reason_number` has them; and kept for the count of request K8
+//     39        halves: the reason of the last block, 0 to 9 as `reason_number` has them; and its overs
 //     40        kept for the powers of request K10
 //
 // A field without a use is 0.

@@ -2,7 +2,6 @@
 -- narrowed they are that part of the samples (`narrowed-part`), with its count (`counted-part`).
 -- Assumes nothing.
 use mathlib.Core.Path.{_≡_, _∙_, refl, sym, ap}
-use mathlib.Core.Bool.{true}
 use mathlib.Core.List.{List, [], _∷_, map}
 use mathlib.Core.Logic.{_⊎_, ⊎-elim}
 use Prim.Native.Nat.{ℕ, zero, suc, _+_, _*_, _<_, _≤_}
@@ -18,13 +17,10 @@ use Rattle.numbers.specs.Narrowing.{narrowOf}
 use Rattle.complex.specs.declared.Complex.{Complex}
 use Rattle.complex.specs.Complexes.{getC, putC, scaleC}
 use Rattle.complex.proofs.Stores.{length-put, get-put-same, get-put-other}
-use Rattle.complex_fft.specs.Reversal.{reversalTable}
-use Rattle.complex_fft.specs.ComplexFft.{runOf}
-use Rattle.complex_fft.proofs.Sizes.{run-long}
 use Rattle.complex_fft.proofs.Stages.{last}
 use Rattle.self_sorting.specs.Quads.{getS}
-use Rattle.self_sorting.specs.Passes.{smallOf, loaded, passes}
-use Rattle.self_sorting.proofs.Sorting.{passes-long, inverse-run, parity}
+use Rattle.self_sorting.specs.Passes.{smallOf}
+use Rattle.self_sorting.proofs.Sorting.{parity}
 use Rattle.narrow_list.specs.Overs.{overCount}
 use Rattle.fft.specs.Scratch.{scaledFrom, pointsIn}
 

@@ -5,7 +5,7 @@
 //     0 to 4    how the numbers are made that it is run on (made.rt)
 //     5, 6      the length of what it reads, and of what it writes
 //     7         a place in what it writes
-//     8         its answer, 0 or the number of a refusal
+//     8         its answer, 0 or the number of a refusal; of an inverse in the upper half how many of its 512 samples went over
 //     9         the hash of what then stands there (`cases::hash_of`)
 //     10, 11    the numbers at that place and the next, for a reader to look at
 //

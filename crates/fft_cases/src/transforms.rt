@@ -1,6 +1,7 @@
 // The transform's functions, by their letters. Each is lent the first part of two buffers of 1,024 numbers, so that a length can be
 // too large too. Both buffers hold the numbers that were made, one of them narrowed to samples: where a function refuses, they
 // still stand in the buffer that it would have written.
+use fft::Inverted;
 ghost use mathlib.Core.Path.{_≡_};
 ghost use Prim.Native.Nat.{_≤_};
 ghost use lib.ListN.{length};
@@ -21,11 +22,11 @@ pub fn run(letter: u8, buffer: &mut [f64], given: usize, room: usize) -> Ran
     match letter {
         b'f' | b'F' => answer(forward(buffer, given, room)),
         b'g' | b'G' => answer(forward_with(buffer, given, room)),
-        b'i' | b'I' => answer(inverse(buffer, given, room)),
-        b'j' | b'J' => answer(inverse_with(buffer, given, room)),
-        b'h' | b'H' => answer(inverse_half_with(buffer, given, false, room)),
-        b'l' | b'L' => answer(inverse_half_with(buffer, given, true, room)),
-        b'b' | b'B' => answer(both_ways(buffer, given, room)),
+        b'i' | b'I' => inverted(inverse(buffer, given, room)),
+        b'j' | b'J' => inverted(inverse_with(buffer, given, room)),
+        b'h' | b'H' => inverted(inverse_half_with(buffer, given, false, room)),
+        b'l' | b'L' => inverted(inverse_half_with(buffer, given, true, room)),
+        b'b' | b'B' => inverted(both_ways(buffer, given, room)),
         b'c' | b'C' => answer(complex_fft::complex_forward(&mut buffer[..given])),
         b'r' | b'R' => answer(complex_fft::complex_inverse(&mut buffer[..given])),
         _ => Ran::Nothing,
@@ -34,6 +35,12 @@ pub fn run(letter: u8, buffer: &mut [f64], given: usize, room: usize) -> Ran
 
 fn answer(number: u32) -> Ran {
     Ran::Answer(number as u64)
+}
+
+// The overs in the upper half.
+fn inverted(i: Inverted) -> Ran {
+    let overs = (i.overs % 0x1_0000_0000) as u64;
+    Ran::Answer(overs << 32 | i.refusal as u64)
 }
 
 fn forward(buffer: &mut [f64], given: usize, room: usize) -> u32
@@ -46,16 +53,16 @@ fn forward(buffer: &mut [f64], given: usize, room: usize) -> u32
     fft::forward(&samples[..given], &mut buffer[..room])
 }
 
-fn inverse(buffer: &mut [f64], given: usize, room: usize) -> u32
+fn inverse(buffer: &mut [f64], given: usize, room: usize) -> Inverted
     requires { ⌜ length (now buffer) ≡ 1024 ⌝ }
     requires { ⌜ given ≤ 1024 ⌝ }
     requires { ⌜ room ≤ 1024 ⌝ }
 {
     let mut samples = [0.0f32; 1024];
     narrow_all(buffer, &mut samples);
-    let number = fft::inverse(&buffer[..given], &mut samples[..room]);
+    let answer = fft::inverse(&buffer[..given], &mut samples[..room]);
     widen_all(&samples, buffer);
-    number
+    answer
 }
 
 fn forward_with(buffer: &mut [f64], given: usize, room: usize) -> u32
@@ -70,7 +77,7 @@ fn forward_with(buffer: &mut [f64], given: usize, room: usize) -> u32
     fft::forward_with(&table, &mut scratch, &samples[..given], &mut buffer[..room])
 }
 
-fn inverse_with(buffer: &mut [f64], given: usize, room: usize) -> u32
+fn inverse_with(buffer: &mut [f64], given: usize, room: usize) -> Inverted
     requires { ⌜ length (now buffer) ≡ 1024 ⌝ }
     requires { ⌜ given ≤ 1024 ⌝ }
     requires { ⌜ room ≤ 1024 ⌝ }
@@ -79,12 +86,12 @@ fn inverse_with(buffer: &mut [f64], given: usize, room: usize) -> u32
     let mut scratch = [0.0; 1024];
     let mut samples = [0.0f32; 1024];
     narrow_all(buffer, &mut samples);
-    let number = fft::inverse_with(&table, &mut scratch, &buffer[..given], &mut samples[..room]);
+    let answer = fft::inverse_with(&table, &mut scratch, &buffer[..given], &mut samples[..room]);
     widen_all(&samples, buffer);
-    number
+    answer
 }
 
-fn inverse_half_with(buffer: &mut [f64], given: usize, later: bool, room: usize) -> u32
+fn inverse_half_with(buffer: &mut [f64], given: usize, later: bool, room: usize) -> Inverted
     requires { ⌜ length (now buffer) ≡ 1024 ⌝ }
     requires { ⌜ given ≤ 1024 ⌝ }
     requires { ⌜ room ≤ 1024 ⌝ }
@@ -93,7 +100,7 @@ fn inverse_half_with(buffer: &mut [f64], given: usize, later: bool, room: usize)
     let mut scratch = [0.0; 1024];
     let mut samples = [0.0f32; 1024];
     narrow_all(buffer, &mut samples);
-    let number = fft::inverse_half_with(
+    let answer = fft::inverse_half_with(
         &table,
         &mut scratch,
         &buffer[..given],
@@ -101,18 +108,21 @@ fn inverse_half_with(buffer: &mut [f64], given: usize, later: bool, room: usize)
         &mut samples[..room],
     );
     widen_all(&samples, buffer);
-    number
+    answer
 }
 
 // To the spectrum and back.
-fn both_ways(buffer: &mut [f64], given: usize, room: usize) -> u32
+fn both_ways(buffer: &mut [f64], given: usize, room: usize) -> Inverted
     requires { ⌜ length (now buffer) ≡ 1024 ⌝ }
     requires { ⌜ given ≤ 1024 ⌝ }
     requires { ⌜ room ≤ 1024 ⌝ }
 {
     let number = forward(buffer, given, 514);
     if number != 0 {
-        return number;
+        return Inverted {
+            refusal: number,
+            overs: 0,
+        };
     }
     inverse(buffer, 514, room)
 }

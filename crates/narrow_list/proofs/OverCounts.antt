@@ -2,10 +2,10 @@
 --     overs-app                              lists one behind the other
 --     overs-start, overs-next, overs-split   a table with no entry, with one more, with n more
 --     overs-few                              no more than there are numbers
---     overs-none                             none where each is narrowed to a finite number
+--     finite-none, overs-none                none where each is narrowed to a finite number
 --     overs-pairs                            a table by pairs: those of its two parts
 --     table-take, table-map                  the first numbers of a list, and each by itself, as tables
-use mathlib.Core.Path.{_≡_, refl, sym, ap, _∙_, subst}
+use mathlib.Core.Path.{_≡_, refl, sym, ap, _∙_}
 use mathlib.Core.Bool.{true, not, true≢false}
 use mathlib.Core.List.{List, [], _∷_, _++_, map}
 use Prim.Native.Nat.{ℕ, zero, suc, _+_, _≤_, _<_, min}
@@ -60,7 +60,7 @@ overs-table n f = omega (arith, overs-few (table n f), length-table n f)
 
 -- ---- none
 
-finite-none : (x : Float) → isFinite (narrowOf x) ≡ true → overOne (kindOf x) ≡ 0
+pub finite-none : (x : Float) → isFinite (narrowOf x) ≡ true → overOne (kindOf x) ≡ 0
 unfolding overOne kindOf
 finite-none x h =
     pick-if (λ (k : Kind). overOne k ≡ 0) (not (isFinite x)) (λ _. refl)

@@ -1,23 +1,23 @@
 -- The four cases of a narrowing's kind, as the code tells them apart, and what stays finite. Assumes nothing.
 --     kind-exact, kind-rounded, kind-over, kind-none      of x, by its narrowed number v
---     low-narrows       what is rounded to an f64 from at most 2^127 in size is narrowed to a finite number
+--     size-narrows, low-narrows       a number of at most 2^127 in size, and what is rounded to an f64 from one, is narrowed to a finite number
 --     small-stays       so is a number below 2^127 times one of at most 1
 use mathlib.Core.Path.{_≡_, refl, sym, ap, _∙_, subst}
-use mathlib.Core.Bool.{Bool, true, false, not, cond}
+use mathlib.Core.Bool.{Bool, true, false, cond}
 use mathlib.Core.Logic.{_⊎_, inl, inr}
-use Prim.Native.Nat.{ℕ, suc, _+_, _*_, _^_, _≤_, _<_}
+use Prim.Native.Nat.{ℕ, suc, _*_, _^_, _≤_, _<_}
 use native.Mathlib.Nat.{le-trans, le-of-eq, le-of-lt, mul-one, mul-assoc, mul-pos, mul-le-mul, eq-zero-or-pos}
 use native.Mathlib.Omega.{arith}
-use lib.Dec.{T, ltb, lit≤}
-use lib.IntN.{pos}
+use lib.Dec.{T, lit≤}
+use lib.IntN.{ℤ, pos}
 use lib.Pow.{pow-pos}
 use borrow.Author.Tests.{le-ltb}
-use lib.Ieee.{Float, nan, inf, fin, Format, binary32, binary64, prec, emax, low, unlike, odd, units, round, mul, eq, lt, le, fits}
+use lib.Ieee.{Float, nan, inf, fin, Format, binary32, binary64, prec, low, unlike, up, down, odd, units, round, mul, eq, lt, le, fits}
 use lib.Ieee.Exact.{HasValue, units-val}
-use lib.Ieee.Fits.{round-is}
+use lib.Ieee.Fits.{round-is, down-pos}
 use lib.Ieee.Order.{round-mono, drop, kept}
 use lib.Ieee.Positive.{positive-of-value, values-of-le}
-use lib.Ieee.Scale.{grid, overflow, round-val}
+use lib.Ieee.Scale.{grid, overflow}
 use Rattle.laws.specs.Choice.{pick, lt-or-ge}
 use Rattle.numbers.specs.Finite.{isFinite}
 use Rattle.numbers.specs.Narrowing.{narrowOf, kindOf, highSquare}
@@ -115,13 +115,20 @@ module _ (f : Format) (is-high : round f false (2 ^ 127) 1 ≡ high) (a c : ℕ)
 
 -- ---- so it is narrowed to a finite number
 
+low-finite : (s : Bool) (a c : ℕ) → 0 < c → a ≤ 2 ^ 127 * c → isFinite (round binary32 s a c) ≡ true
+low-finite s a c C h = value-finite (round binary32 s a c) s (grid binary32 a c) (2 ^ 149) (low-value binary32 high-32 a c C h s)
+
+-- a number of at most that size, and one that is rounded from such
+pub size-narrows : (s : Bool) (m : ℕ) (e : ℤ) → m * up e ≤ 2 ^ 127 * down e → isFinite (narrowOf (fin s m e)) ≡ true
+unfolding narrowOf
+size-narrows s m e h = low-finite s (m * up e) (down e) (down-pos e) h
+
 pub low-narrows : (s : Bool) (a c : ℕ) → 0 < c → a ≤ 2 ^ 127 * c → isFinite (narrowOf (round binary64 s a c)) ≡ true
 low-narrows s a c C h =
     let y = round binary64 s a c in
     let g = grid binary64 a c in
     let e = narrow-at y s g (2 ^ 1074) (pow-pos 1074) (low-value binary64 high-64 a c C h s) in
-    let v = low-value binary32 high-32 g (2 ^ 1074) (pow-pos 1074) (low-size binary64 high-64 a c C h) s in
-    ap isFinite e ∙ value-finite (round binary32 s g (2 ^ 1074)) s (grid binary32 g (2 ^ 1074)) (2 ^ 149) v
+    ap isFinite e ∙ low-finite s g (2 ^ 1074) (pow-pos 1074) (low-size binary64 high-64 a c C h)
 
 pub small-stays : (x y : Float) (b d : ℕ) → T (fits binary64 x) → lt (mul binary64 x x) highSquare ≡ true → HasValue y false b d → 0 < d → b ≤ d
     → isFinite (narrowOf (mul binary64 x y)) ≡ true

@@ -12,7 +12,6 @@ use lib.Ieee.{Float, nan, inf, fin, Format, binary32, prec, emax, low, hid, ones
 use lib.Ieee.Fits.{round-is, round-fits, nan-fits, inf-fits, up-pos}
 use lib.Ieee.Bits.{ofBits-toBits, nanBits-is, nanBits-above}
 use Rattle.numbers.specs.Order.{absOf}
-use Rattle.numbers.specs.Finite.{isFinite}
 use Rattle.numbers.specs.Narrowing.{narrowOf}
 
 -- only a NaN differs from itself

@@ -60,7 +60,9 @@ fn answer(letter: u8, a: u64, b: u64, c: u64) -> Found {
     match letter {
         b'n' => bits32(numbers::narrow(x)),
         b'N' => Found::Bits(wide(numbers::narrow_bits(x))),
+        b't' => Found::Bits(told(x)),
         b'l' => Found::Bits(listed(x, b, z)),
+        b'L' => Found::Bits(counted(x, b, z)),
         b'w' => bits(numbers::widen(u)),
         b'a' => bits(numbers::abs(x)),
         b'A' => bits32(numbers::abs32(u)),
@@ -87,6 +89,23 @@ fn listed(x: f64, place: u64, z: f64) -> u64 {
     let mut out = [0.0f32; 33];
     narrow_list::narrow_into(&list, &mut out);
     wide(numbers::to_bits32(out[next])) << 32 | wide(numbers::to_bits32(out[at]))
+}
+
+// How many of such a list went over, narrowed into as much room as the upper half of `place` says.
+fn counted(x: f64, place: u64, z: f64) -> u64 {
+    let at = (place % 33) as usize;
+    let room = (place / 0x1_0000_0000 % 34) as usize;
+    let mut list = [z; 33];
+    list[at] = x;
+    let mut out = [0.0f32; 33];
+    narrow_list::narrow_into(&list, &mut out[..room]) as u64
+}
+
+// The narrowed number, and in the upper half what narrowing did.
+fn told(x: f64) -> u64 {
+    let narrowed = numbers::narrow_told(x);
+    let kind = narrowed.kind;
+    wide(numbers::kind_number(kind)) << 32 | wide(numbers::to_bits32(narrowed.value))
 }
 
 fn low(pattern: u64) -> u32 {

@@ -6,8 +6,13 @@ use Rattle.promises.specs.Answers.{One, Numbers, Tables, Complexes, Tran
 one : {A : Type 0} (d : A) → One A (λ r. r ≡ d)
 one d r s h k = h ∙ sym k
 
+-- and two pairs whose parts do
+pair : {A B : Type 0} (d : A) (e : B) → One (A × B) (λ (r, s). (s ≡ e) × (r ≡ d))
+pair {A} {B} d e r s h k = ap (λ (x : A). (x, r .1)) (h .1 ∙ sym (k .1)) ∙ ap (λ (y : B). (s .0, y)) (h .0 ∙ sym (k .0))
+
 pub numbers : Numbers
-numbers x y z b m n xs out = (one _, one _, one _, one _, one _, one _, one _, one _, one _, one _, one _, one _, one _, one _, one _, one _, one _, one _)
+numbers x y z b m n kind xs out =
+    (one _, one _, one _, one _, one _, one _, one _, one _, one _, one _, one _, one _, one _, one _, one _, one _, one _, one _, one _, pair _ _, one _)
 
 pub tables : Tables
 tables x = (one _, one _, one _, one _)
@@ -25,7 +30,7 @@ pub tau : Tau
 tau parts flag shadow output spectra e near far out = (one _, one _, one _, one _)
 
 pub hosts : Hosts
-hosts e near far out bytes = (one _, one _, one _)
+hosts e near far out bytes x = (one _, one _, one _, one _)
 
 pub bytes : Bytes
 bytes s out xs buf n e = (one _, one _, one _, one _, one _, one _, one _)

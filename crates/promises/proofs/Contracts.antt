@@ -11,7 +11,7 @@ use Rattle.promises.specs.Contracts.{Numbers, Tables, Complexes, Transfo
 
 module _ {M : Type 1} (𝓤 : URA M) (H : Heap 𝓤) (A : Atoms 𝓤) (mem : Memory → SProp 𝓤) (run : Routine → Fun 𝓤) where
   pub numbers : Numbers 𝓤 H A mem run
-  numbers = (refl, refl, refl, refl, refl, refl, refl, refl, refl, refl, refl, refl, refl, refl, refl, refl, refl, refl, refl, refl, refl)
+  numbers = (refl, refl, refl, refl, refl, refl, refl, refl, refl, refl, refl, refl, refl, refl, refl, refl, refl, refl, refl, refl, refl, refl, refl, refl)
 
   pub tables : Tables 𝓤 H A mem run
   tables = (refl, refl, refl, refl)
@@ -29,7 +29,7 @@ module _ {M : Type 1} (𝓤 : URA M) (H : Heap 𝓤) (A : Atoms 𝓤) (mem : Mem
   tau = (refl, refl, refl, refl)
 
   pub hosts : Hosts 𝓤 H A mem run
-  hosts = (refl, refl, refl, refl, refl, refl, refl, refl, refl, refl, refl, refl, refl, refl, refl, refl, refl)
+  hosts = (refl, refl, refl, refl, refl, refl, refl, refl, refl, refl, refl, refl, refl, refl, refl, refl, refl, refl)
 
   pub bytes : Bytes 𝓤 H A mem run
   bytes = (refl, refl, refl, refl, refl, refl, refl)

@@ -7,7 +7,7 @@ use lib.Dec.{eqb}
 use lib.Ieee.{Float}
 use Rattle.laws.specs.Choice.{pick, pick-yes, pick-no, pick-if}
 use Rattle.complex_fft.specs.Calls.{Wrote, complexOf}
-use Rattle.fft.specs.Calls.{lentOf, forwardOf, inverseOf, forwardWithOf, inverseWithOf, halfWithOf}
+use Rattle.fft.specs.Calls.{Sampled, lentOf, forwardOf, inverseOf, forwardWithOf, inverseWithOf, halfWithOf}
 use Rattle.rho.specs.Calls as rho
 use Rattle.rho_state.specs.State as rhoStates
 use Rattle.rho_streams.proofs.Counts as rhoCounts
@@ -42,29 +42,39 @@ two false b x = refl
 -- ---- the real transform
 
 -- a call whose answer is 0 where the lengths are right, and else 2 with nothing written
-module _ (b : Bool) (done out : List Float) where
-  abbrev call : Wrote
-  call = pick b (record { answer = 0; out = done }) (record { answer = 2; out = out })
+-- a call that leaves `done` or, refused, `kept`
+module _ {W : Type 0} (answer : W → ℕ) (out : W → List Float) (b : Bool) (done kept : W) (none : answer done ≡ 0) (two : answer kept ≡ 2) where
+  abbrev call : W
+  call = pick b done kept
 
-  answers : call .answer ≡ firstOf (record { holds = b; number = 2 } ∷ [])
+  answers : answer call ≡ firstOf (record { holds = b; number = 2 } ∷ [])
   unfolding firstOf
-  answers = pick-if (λ (w : Wrote). w .answer ≡ pick b 0 2) b (λ h. pick-yes _ _ _ h refl) (λ h. pick-no _ _ _ h refl)
+  answers = pick-if (λ (w : W). answer w ≡ pick b 0 2) b (λ h. pick-yes _ _ _ h none) (λ h. pick-no _ _ _ h two)
 
-  leaves : (call .answer ≡ 0 → ⊥) → call .out ≡ out
-  leaves = pick-if (λ (w : Wrote). (w .answer ≡ 0 → ⊥) → w .out ≡ out) b (λ _ h. absurd (h refl)) (λ _ _. refl)
+  leaves : (answer call ≡ 0 → ⊥) → out call ≡ out kept
+  leaves = pick-if (λ (w : W). (answer w ≡ 0 → ⊥) → out w ≡ out kept) b (λ _ h. absurd (h none)) (λ _ _. refl)
+
+module _ (b : Bool) where
+  wrote : (done kept : Wrote) → done .answer ≡ 0 → kept .answer ≡ 2 → (pick b done kept .answer ≡ firstOf (record { holds = b; number = 2 } ∷ [])) × ((pick b done kept .answer ≡ 0 → ⊥) → pick b done kept .out ≡ kept .out)
+  wrote d k z t = (answers (λ w. w .answer) (λ w. w .out) b d k z t, leaves (λ w. w .answer) (λ w. w .out) b d k z t)
+
+  sampled : (done kept : Sampled) → done .answer ≡ 0 → kept .answer ≡ 2 → (pick b done kept .answer ≡ firstOf (record { holds = b; number = 2 } ∷ [])) × ((pick b done kept .answer ≡ 0 → ⊥) → pick b done kept .out ≡ kept .out)
+  sampled d k z t = (answers (λ w. w .answer) (λ w. w .out) b d k z t, leaves (λ w. w .answer) (λ w. w .out) b d k z t)
 
 pub transform-refuses : TransformRefuses
 unfolding forwardOf inverseOf
-transform-refuses x out = (answers _ _ out, answers _ _ out, leaves _ _ out, leaves _ _ out)
+transform-refuses x out = let f = wrote _ _ _ refl refl in let i = sampled _ _ _ refl refl in (f .0, i .0, f .1, i .1)
 
 pub complex-refuses : ComplexRefuses
 unfolding complexOf
-complex-refuses inverse points = (answers _ _ points, leaves _ _ points)
+complex-refuses inverse points = wrote _ _ _ refl refl
 
 pub lent-refuses : LentRefuses
 unfolding forwardWithOf inverseWithOf halfWithOf lentOf
 lent-refuses t s x out later =
-    (answers _ _ out, answers _ _ out, answers _ _ out, leaves _ _ out, leaves _ _ out, leaves _ _ out)
+    let f = wrote _ _ _ refl refl in
+    let i = sampled _ _ _ refl refl in
+    let h = sampled _ _ _ refl refl in (f .0, i .0, h .0, f .1, i .1, h .1)
 
 -- ---- TauCanceller
 

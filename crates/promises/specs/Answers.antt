@@ -7,15 +7,18 @@ use mathlib.Core.Bool.{Bool}
 use mathlib.Core.List.{List}
 use Prim.Native.Nat.{ℕ}
 use lib.Ieee.{Float}
-use Rattle.numbers.specs.Promises.{Abs, Min, Max, Clamp, Lesser, IsFinite, FiniteOrZero, Widen, Narrow, NarrowBits, IsPlain, PlainSquares, Rounded}
+use Rattle.numbers.specs.Promises.{Abs, Min, Max, Clamp, Lesser, IsFinite, FiniteOrZero, Widen, Narrow, NarrowBits, NarrowTold, KindNumber, IsPlain, PlainSquares, Rounded}
 use Rattle.numbers.specs.Promises.{FromBits, FromBits32, ToBits, ToBits32}
-use Rattle.narrow_list.specs.Promises.{NarrowInto}
+use Rattle.numbers.specs.declared.narrowing.Kind.{Kind}
+use Rattle.numbers.specs.declared.narrowing.Narrowed.{Narrowed}
+use Rattle.narrow_list.specs.Promises.{NarrowInto, OversScaled}
 use Rattle.trig.specs.Promises.{DetSin, DetCos, Recombination}
 use Rattle.complex.specs.declared.Complex.{Complex}
 use Rattle.complex.specs.Promises.{New, Conj, Add, Sub, Mul, Scale}
 use Rattle.complex_fft.specs.declared.complex_fft.Wings.{Wings}
 use Rattle.complex_fft.specs.Calls.{Wrote}
 use Rattle.complex_fft.specs.Promises.{ComplexForward, ComplexInverse, ReversalTable, Butterfly}
+use Rattle.fft.specs.Calls.{Sampled}
 use Rattle.fft.specs.Promises.{Forward, Inverse, ForwardWith, InverseWith, InverseHalfWith, RefusedKeeps}
 use Rattle.rho_sample.specs.Sample as rhoSample
 use Rattle.rho.specs.declared.calls.Answer as rhoAnswer
@@ -26,7 +29,7 @@ use Rattle.tau.specs.Calls.{Begun, Called}
 use Rattle.tau.specs.Promises as tau
 use Rattle.capi.specs.Tau.{Hosted}
 use Rattle.capi.specs.declared.record_calls.RecordRead as recordCalls
-use Rattle.capi.specs.Promises.{TauProcess, TauFlush, RecordRead}
+use Rattle.capi.specs.Promises.{TauProcess, TauFlush, RecordRead, NarrowKind}
 use Rattle.wire.specs.Promises.{WholePairs, ReadNear, ReadFar, KeepRest, WriteSamples}
 use Rattle.capture.specs.Feeds.{Fed}
 use Rattle.capture.specs.Promises.{Feed, Finish}
@@ -43,9 +46,9 @@ use Rattle.manifest.specs.Promises.{Sort}
 abbrev pub One : (A : Type 0) → (A → Type 0) → Type 0
 One A promise = (r s : A) → promise r → promise s → r ≡ s
 
--- numbers, narrow_list: x, y, z are numbers, b a pattern, m and n counts, xs and out lists
+-- numbers, narrow_list: x, y, z are numbers, b a pattern, m and n counts, xs and out lists; kind one of narrowing
 abbrev pub Numbers : Type 0
-Numbers = (x y z : Float) (b m n : ℕ) (xs out : List Float)
+Numbers = (x y z : Float) (b m n : ℕ) (kind : Kind) (xs out : List Float)
     → One Float (Abs x)
     × One Float (Min x y)
     × One Float (Max x y)
@@ -56,6 +59,8 @@ Numbers = (x y z : Float) (b m n : ℕ) (xs out : List Float)
     × One Float (Widen x)
     × One Float (Narrow x)
     × One ℕ (NarrowBits x)
+    × One Narrowed (NarrowTold x)
+    × One ℕ (KindNumber kind)
     × One Bool (IsPlain x)
     × One Bool (PlainSquares x y)
     × One Float (Rounded x)
@@ -63,7 +68,8 @@ Numbers = (x y z : Float) (b m n : ℕ) (xs out : List Float)
     × One Float (FromBits32 b)
     × One ℕ (ToBits x)
     × One ℕ (ToBits32 x)
-    × One (List Float) (NarrowInto xs out)
+    × One (ℕ × List Float) (λ (overs, after). NarrowInto xs out overs after)
+    × One ℕ (OversScaled xs x)
 
 -- trig, and the two tables
 abbrev pub Tables : Type 0
@@ -90,10 +96,10 @@ Transforms = (x out t s : List Float) (later : Bool)
     → One Wrote (λ w. ComplexForward x (w .answer) (w .out))
     × One Wrote (λ w. ComplexInverse x (w .answer) (w .out))
     × One Wrote (λ w. Forward x out (w .answer) (w .out))
-    × One Wrote (λ w. Inverse x out (w .answer) (w .out))
+    × One Sampled (λ w. Inverse x out (record { refusal = w .answer; overs = w .overs }) (w .out))
     × One Wrote (λ w. ForwardWith t s x out (w .answer) (w .out))
-    × One Wrote (λ w. InverseWith t s x out (w .answer) (w .out))
-    × One Wrote (λ w. InverseHalfWith t s x later out (w .answer) (w .out))
+    × One Sampled (λ w. InverseWith t s x out (record { refusal = w .answer; overs = w .overs }) (w .out))
+    × One Sampled (λ w. InverseHalfWith t s x later out (record { refusal = w .answer; overs = w .overs }) (w .out))
     × One (List Float) (RefusedKeeps s 2)
 
 -- RhoCanceller
@@ -114,10 +120,11 @@ Tau = (parts : ℕ) (flag : Bool) (shadow output spectra : List Float) (e : Engi
 
 -- capi: the calls that answer numbers where those below have an enum or a part; its other functions cite promises of these
 abbrev pub Hosts : Type 0
-Hosts = (e : Engine) (near far out : List Float) (bytes : List ℕ)
+Hosts = (e : Engine) (near far out : List Float) (bytes : List ℕ) (x : Float)
     → One Hosted (λ c. TauProcess e near far out (c .answer) (c .shadow) (c .output) (c .spectra) (c .out))
     × One Hosted (λ c. TauFlush e out (c .answer) (c .shadow) (c .output) (c .spectra) (c .out))
     × One recordCalls.RecordRead (RecordRead bytes)
+    × One ℕ (NarrowKind x)
 
 -- bytes: s and out are lists of bytes, xs and buf of samples, n a count
 abbrev pub Bytes : Type 0

@@ -20,10 +20,10 @@ use denote.Ref.{RefT, now}
 use denote.Triple.Entry.{Args, Res}
 use denote.Triple.Clauses.{Ended, Clauses, AtExit}
 use Rattle.numbers.proofs as numbers
-use Rattle.numbers.specs.Promises.{Abs, Min, Max, Clamp, Lesser, IsFinite, FiniteOrZero, Widen, Narrow, NarrowBits, IsPlain, PlainSquares, Rounded}
+use Rattle.numbers.specs.Promises.{Abs, Min, Max, Clamp, Lesser, IsFinite, FiniteOrZero, Widen, Narrow, NarrowBits, NarrowTold, KindNumber, IsPlain, PlainSquares, Rounded}
 use Rattle.numbers.specs.Promises.{FromBits, FromBits32, ToBits, ToBits32}
 use Rattle.narrow_list.proofs as narrowList
-use Rattle.narrow_list.specs.Promises.{NarrowInto}
+use Rattle.narrow_list.specs.Promises.{NarrowInto, OversScaled}
 use Rattle.trig.proofs as trig
 use Rattle.trig.specs.Promises.{DetSin, DetCos, Recombination}
 use Rattle.complex.proofs.Complex as complex
@@ -41,7 +41,7 @@ use Rattle.tau_state.specs.declared.state.TauCanceller.{TauCanceller}
 use Rattle.tau_frame.specs.Pairs.{Engine}
 use Rattle.tau.specs.Promises as tauPromises
 use Rattle.capi.proofs as capi
-use Rattle.capi.specs.Promises.{TauProcess, TauFlush, RecordRead}
+use Rattle.capi.specs.Promises.{TauProcess, TauFlush, RecordRead, NarrowKind}
 use Rattle.wire.proofs as wire
 use Rattle.wire.specs.Promises.{WholePairs, ReadNear, ReadFar, KeepRest, WriteSamples}
 use Rattle.capture.proofs as capture
@@ -97,6 +97,8 @@ module _ {M : Type 1} (𝓤 : URA M) (H : Heap 𝓤) (A : Atoms 𝓤) (mem : Mem
       × Says numbers.widen.ended (numbers.widen.clauses 𝓤 H A mem run) (λ _ (x, _) r _. Widen x r)
       × Says numbers.narrow.ended (numbers.narrow.clauses 𝓤 H A mem run) (λ _ (x, _) r _. Narrow x r)
       × Says numbers.«narrow_bits».ended (numbers.«narrow_bits».clauses 𝓤 H A mem run) (λ _ (x, _) r _. NarrowBits x r)
+      × Says numbers.«narrow_told».ended (numbers.«narrow_told».clauses 𝓤 H A mem run) (λ _ (x, _) r _. NarrowTold x r)
+      × Says numbers.«kind_number».ended (numbers.«kind_number».clauses 𝓤 H A mem run) (λ _ (kind, _) r _. KindNumber kind r)
       × Says numbers.«is_plain».ended (numbers.«is_plain».clauses 𝓤 H A mem run) (λ _ (x, _) r _. IsPlain x r)
       × Says numbers.«plain_squares».ended (numbers.«plain_squares».clauses 𝓤 H A mem run) (λ _ (least, (most, _)) r _. PlainSquares least most r)
       × Says numbers.rounded.ended (numbers.rounded.clauses 𝓤 H A mem run) (λ _ (x, _) r _. Rounded x r)
@@ -105,7 +107,8 @@ module _ {M : Type 1} (𝓤 : URA M) (H : Heap 𝓤) (A : Atoms 𝓤) (mem : Mem
       × Says numbers.«to_bits».ended (numbers.«to_bits».clauses 𝓤 H A mem run) (λ _ (x, _) r _. ToBits x r)
       × Says numbers.«to_bits32».ended (numbers.«to_bits32».clauses 𝓤 H A mem run) (λ _ (x, _) r _. ToBits32 x r)
       × Says narrowList.«narrow_into».ended (narrowList.«narrow_into».clauses 𝓤 H A mem run)
-      (λ _ (xs, (out, _)) r (_, (out', _)). NarrowInto (now xs) (now out) (now out'))
+      (λ _ (xs, (out, _)) r (_, (out', _)). NarrowInto (now xs) (now out) r (now out'))
+      × Says narrowList.«overs_scaled».ended (narrowList.«overs_scaled».clauses 𝓤 H A mem run) (λ _ (xs, (scale, _)) r _. OversScaled (now xs) scale r)
 
   -- trig, and the two tables
   abbrev pub Tables : Type 2
@@ -143,10 +146,10 @@ module _ {M : Type 1} (𝓤 : URA M) (H : Heap 𝓤) (A : Atoms 𝓤) (mem : Mem
       (λ _ (t, (s, (x, (out, _)))) r (_, (s', _)). RefusedKeeps (now s) r (now s'))
       × SaysBoth fft.«inverse_with».ended (fft.«inverse_with».clauses 𝓤 H A mem run)
       (λ _ (t, (s, (x, (out, _)))) r (_, (_, (_, (out', _)))). InverseWith (now t) (now s) (now x) (now out) r (now out'))
-      (λ _ (t, (s, (x, (out, _)))) r (_, (s', _)). RefusedKeeps (now s) r (now s'))
+      (λ _ (t, (s, (x, (out, _)))) r (_, (s', _)). RefusedKeeps (now s) (r .refusal) (now s'))
       × SaysBoth fft.«inverse_half_with».ended (fft.«inverse_half_with».clauses 𝓤 H A mem run)
       (λ _ (t, (s, (x, (later, (out, _))))) r (_, (_, (_, (_, (out', _))))). InverseHalfWith (now t) (now s) (now x) later (now out) r (now out'))
-      (λ _ (t, (s, (x, (later, (out, _))))) r (_, (s', _)). RefusedKeeps (now s) r (now s'))
+      (λ _ (t, (s, (x, (later, (out, _))))) r (_, (s', _)). RefusedKeeps (now s) (r .refusal) (now s'))
 
   -- RhoCanceller: w is the weights and h the history
   abbrev pub Rho : Type 2
@@ -176,6 +179,7 @@ module _ {M : Type 1} (𝓤 : URA M) (H : Heap 𝓤) (A : Atoms 𝓤) (mem : Mem
   Hosts =
       (capi.«aspeyruni_narrow».clauses 𝓤 H A mem run ≡ numbers.narrow.clauses 𝓤 H A mem run)
       × (capi.«aspeyruni_narrow_bits».clauses 𝓤 H A mem run ≡ numbers.«narrow_bits».clauses 𝓤 H A mem run)
+      × Says capi.«aspeyruni_narrow_kind».ended (capi.«aspeyruni_narrow_kind».clauses 𝓤 H A mem run) (λ _ (x, _) r _. NarrowKind x r)
       × (capi.«aspeyruni_narrow_list».clauses 𝓤 H A mem run ≡ narrowList.«narrow_into».clauses 𝓤 H A mem run)
       × (capi.«aspeyruni_forward».clauses 𝓤 H A mem run ≡ fft.forward.clauses 𝓤 H A mem run)
       × (capi.«aspeyruni_inverse».clauses 𝓤 H A mem run ≡ fft.inverse.clauses 𝓤 H A mem run)

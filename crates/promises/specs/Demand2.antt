@@ -13,8 +13,8 @@ use Rattle.trig.specs.Tables.{recombination}
 use Rattle.complex_fft.specs.Reversal.{reversalTable}
 use Rattle.complex_fft.specs.ComplexFft.{runOf}
 use Rattle.complex_fft.specs.Calls.{complexOf}
-use Rattle.fft.specs.RealFft.{spectrumWith, samplesWith}
-use Rattle.fft.specs.Calls.{forwardOf, inverseOf, spectrumOf, samplesOf, forwardWithOf, inverseWithOf, halfOfSamples, halfWithOf}
+use Rattle.fft.specs.RealFft.{spectrumWith, samplesWith, oversWith}
+use Rattle.fft.specs.Calls.{forwardOf, inverseOf, spectrumOf, samplesOf, oversOf, forwardWithOf, inverseWithOf, halfOfSamples, halfWithOf}
 use Rattle.rho_sample.specs.Sample as sample
 use Rattle.rho.specs.Calls as rho
 use Rattle.rho_state.specs.State as rhoStates
@@ -34,7 +34,7 @@ use Rattle.tau_streams.specs.Stream as tauStream
 abbrev pub TransformRuns : Type 0
 TransformRuns = (x s out : List Float) → length x ≡ 512 → length s ≡ 514
     → (length out ≡ 514 → forwardOf x out ≡ record { answer = 0; out = spectrumOf x })
-    × (length out ≡ 512 → inverseOf s out ≡ record { answer = 0; out = samplesOf s })
+    × (length out ≡ 512 → inverseOf s out ≡ record { answer = 0; overs = oversOf s; out = samplesOf s })
 
 -- the transform of 256 points, and the forms over a lent table t and a lent scratch
 abbrev pub ComplexRuns : Type 0
@@ -44,8 +44,8 @@ ComplexRuns = (inverse : Bool) (points : List Float) → length points ≡ 512
 abbrev pub LentRuns : Type 0
 LentRuns = (t scratch x s out : List Float) (later : Bool) → length t ≡ 514 → length scratch ≡ 1024 → length x ≡ 512 → length s ≡ 514
     → (length out ≡ 514 → forwardWithOf t scratch x out ≡ record { answer = 0; out = spectrumWith t reversalTable x })
-    × (length out ≡ 512 → inverseWithOf t scratch s out ≡ record { answer = 0; out = samplesWith t reversalTable s })
-    × (length out ≡ 256 → halfWithOf t scratch s later out ≡ record { answer = 0; out = halfOfSamples later (samplesWith t reversalTable s) })
+    × (length out ≡ 512 → inverseWithOf t scratch s out ≡ record { answer = 0; overs = oversWith t reversalTable s; out = samplesWith t reversalTable s })
+    × (length out ≡ 256 → halfWithOf t scratch s later out ≡ record { answer = 0; overs = oversWith t reversalTable s; out = halfOfSamples later (samplesWith t reversalTable s) })
 
 -- ---- accepted calls
 

@@ -3,21 +3,30 @@
 use mathlib.Core.Path.{_≡_}
 use mathlib.Core.Bool.{Bool, true, false, not, _&&_, _||_}
 use mathlib.Core.List.{List, [], _∷_, _++_}
-use Prim.Native.Nat.{ℕ, suc, _+_, _*_, _/_, _^_, _≤_, _<_, min}
+use Prim.Native.Nat.{ℕ, suc, _+_, _*_, _/_, _^_, _≤_, _<_, min, _-_}
 use lib.Dec.{T, leb, ltb}
-use lib.IntN.{ℤ}
+use lib.IntN.{ℤ, pos, negsuc}
 use lib.ListN.{getD, length, take, drop}
 use lib.Ieee.{Float, nan, inf, fin, binary64, up, down, mul, eq, lt, le, fits}
 use Rattle.laws.specs.Choice.{pick}
+use Rattle.laws.specs.Loops.{iter}
 use Rattle.laws.specs.Counting.{oneMore}
 use Rattle.numbers.specs.Finite.{isFinite}
-use Rattle.numbers.specs.Narrowing.{narrowOf, isPlain, plainSquares, roundedOf}
+use Rattle.numbers.specs.Narrowing.{narrowOf, isPlain, plainSquares, roundedOf, kindOf}
+use Rattle.numbers.specs.declared.narrowing.Kind.the-variants.{Exact, Rounded, Over}
 use Rattle.numbers.specs.Zeros.{Zero, Fits}
+use Rattle.narrow_list.specs.Overs.{overCount}
+use Rattle.trig.specs.Tables.{recombination}
+use Rattle.complex_fft.specs.Reversal.{reversalTable}
+use Rattle.complex_fft.specs.ComplexFft.{runOf}
+use Rattle.fft.specs.RealFft.{halvesOf}
+use Rattle.fft.specs.Calls.{spectrumOf, oversOf, inverseOf, inverseWithOf, halfWithOf}
 use Rattle.tau_state.specs.Constants.{zero64, f0·1}
 use Rattle.tau_state.specs.Sums.{energyOf, crossOf}
-use Rattle.tau_state.specs.Report.{reasonNumber, outcomeOf, reasonIn}
+use Rattle.tau_state.specs.Report.{reasonNumber, outcomeOf, reasonIn, oversIn}
 use Rattle.tau_state.specs.declared.state.Detector.{Detector}
 use Rattle.tau_state.specs.declared.state.Paths.{Paths}
+use Rattle.tau_state.specs.declared.state.Suppressor.{Suppressor}
 use Rattle.tau_state.specs.declared.report.Outcome.the-variants.{NoMove}
 use Rattle.tau_state.specs.declared.report.Reason.{Reason}
 use Rattle.tau_state.specs.declared.report.Reason.the-variants.{FlushBlock, OutputDiverged, FarNotActive, NotEstablished, Rescued, QuietStreakShort, NoOutputPower, NoAdvantage, Moved}
@@ -25,12 +34,13 @@ use Rattle.tau_state.specs.declared.report.Last.the-variants.{NoneRan}
 use Rattle.tau_clears.specs.Weights.{leaked}
 use Rattle.tau_detector.specs.Detector.{coherenceOf, learned, judged}
 use Rattle.tau_paths.specs.Paths.{leakOf, advantageOf, acted, weighedIf}
-use Rattle.tau_spectra.specs.Ring.{Ring, ringOf}
+use Rattle.tau_spectra.specs.Ring.{Ring, ringOf, metBy}
 use Rattle.tau_spectra.specs.Far.{Heard, hearFar}
-use Rattle.tau_filter.specs.Filter.{shadowed}
-use Rattle.tau_update.specs.Update.{updated}
+use Rattle.tau_filter.specs.Filter.{shadowed, echoOf, estimated}
+use Rattle.tau_update.specs.Update.{updated, framed, farPowerTo, ratesOf, gradientOf}
+use Rattle.tau_suppressor.specs.Suppressor.{averaged, shaped, suppressed}
 use Rattle.tau_block.specs.Block.{Block, Listened, Engine, quiet, runBlock}
-use Rattle.tau_block.specs.Groups.{Filtered, Judgement, filtered, askedOf, updates, suppresses, delivered, gathered}
+use Rattle.tau_block.specs.Groups.{Filtered, Judgement, filtered, askedOf, updates, suppresses, delivered, gathered, compares}
 use Rattle.tau.specs.Calls as tau
 use Rattle.tau_streams.specs.Stream.{Good, blockOn, blocksOf}
 
@@ -114,7 +124,7 @@ actedIn e far b =
       comparison = acted why (pathsIn e far b) (s .mic .transfers) (f .output .shadow) (f .output .output);
     } in
     let u = updated (updates (b .adapt) f j) (ringIn e far) (f .shadowError) (d .«step_scale») (s .mic .«far_power_mean») (j .comparison .paths) (f .output .resets) (j .comparison .shadow) in
-    gathered j u
+    gathered f j u
     (delivered (suppresses (s .suppress) (heard .far .«far_active») f) (d .«protect_output») (b .near) (energyOf (b .near) (b .valid)) (b .valid)
     (f .output) (s .mic) (u .paths) (u .resets) (j .comparison .output))
 
@@ -257,3 +267,102 @@ abbrev pub MutedSamples : Type 0
 MutedSamples = (near : List Float) (valid : ℕ) → ((k : ℕ) → k < valid → Fits (getD near k nan))
     → (T (eq (energyOf near valid) zero64) → (k : ℕ) → k < valid → Zero (getD near k nan))
     × (((k : ℕ) → k < valid → Zero (getD near k nan)) → T (eq (energyOf near valid) zero64))
+
+-- ---- K8. Tell me when a sample went over
+
+-- "whether it was exact, rounded, or a finite number that became infinite. .. An infinite or NaN input reads as exact"
+abbrev pub KindsTold : Type 0
+KindsTold = (x : Float)
+    → (isFinite x ≡ false → kindOf x ≡ Exact)
+    × (isFinite x ≡ true → isFinite (narrowOf x) ≡ false → kindOf x ≡ Over)
+    × (isFinite (narrowOf x) ≡ true → eq x (narrowOf x) ≡ true → kindOf x ≡ Exact)
+    × (isFinite (narrowOf x) ≡ true → eq x (narrowOf x) ≡ false → kindOf x ≡ Rounded)
+
+-- at the borders: 2^-149 and -0.0, 2^-150, 2^128 - 2^103 and the f64 below it
+abbrev pub KindBorders : Type 0
+KindBorders =
+    (kindOf (fin false 1 (negsuc 148)) ≡ Exact)
+    × (kindOf (fin true 0 (pos 0)) ≡ Exact)
+    × (kindOf (fin false 1 (negsuc 149)) ≡ Rounded)
+    × (kindOf (fin true (2 ^ 25 - 1) (pos 103)) ≡ Over)
+    × (kindOf (fin true (2 ^ 53 - 2 ^ 28 - 1) (pos 75)) ≡ Rounded)
+
+-- by the size: from 2^128 - 2^103 on every number goes over, and none does up to 2^127 (`fin s m e` has the size m * up e / down e)
+abbrev pub OverSizes : Type 0
+OverSizes = (s : Bool) (m : ℕ) (e : ℤ)
+    → ((2 ^ 128 - 2 ^ 103) * down e ≤ m * up e → kindOf (fin s m e) ≡ Over)
+    × (m * up e ≤ 2 ^ 127 * down e → kindOf (fin s m e) ≡ Over → ⊥)
+
+-- a count is of each number by itself
+abbrev pub CountsEach : Type 0
+CountsEach =
+    ((xs ys : List Float) → overCount (xs ++ ys) ≡ overCount xs + overCount ys)
+    × ((x : Float) → kindOf x ≡ Over → overCount (x ∷ []) ≡ 1)
+    × ((x : Float) → (kindOf x ≡ Over → ⊥) → overCount (x ∷ []) ≡ 0)
+
+-- "The real inverse then says how many of its 512 samples went over": of all numbers that it narrows, whichever half is asked for; 0 where it
+-- is refused
+abbrev pub InverseTells : Type 0
+InverseTells = (t scratch x out : List Float) (later : Bool)
+    → let points = runOf t reversalTable true (halvesOf t x) in
+    (length points ≡ 512)
+    × (t ≡ recombination → inverseOf x out .answer ≡ 0 → inverseOf x out .overs ≡ overCount points)
+    × (inverseWithOf t scratch x out .answer ≡ 0 → inverseWithOf t scratch x out .overs ≡ overCount points)
+    × (halfWithOf t scratch x later out .answer ≡ 0 → halfWithOf t scratch x later out .overs ≡ overCount points)
+    × ((inverseOf x out .answer ≡ 0 → ⊥) → inverseOf x out .overs ≡ 0)
+    × ((inverseWithOf t scratch x out .answer ≡ 0 → ⊥) → inverseWithOf t scratch x out .overs ≡ 0)
+    × ((halfWithOf t scratch x later out .answer ≡ 0 → ⊥) → halfWithOf t scratch x later out .overs ≡ 0)
+
+-- "the sum over the block's inverses, with or without the suppressor": what each of a block's steps adds. A divergence and a cleared shadow
+-- take nothing off.
+pub record StepsTell : Type 0 where
+  pub shadow : (ring : Ring) (near : List Float) (paths : Paths) (resets : ℕ) (shadow : List Float)
+      → shadowed ring near paths resets shadow .overs ≡ oversOf (echoOf shadow ring)
+  pub output : (ring : Ring) (near : List Float) (paths : Paths) (suppressor : Suppressor) (resets : ℕ) (shadow output : List Float)
+      → estimated ring near paths suppressor resets shadow output .overs ≡ oversOf (echoOf output ring)
+  pub update : (runs : Bool) (ring : Ring) (error : List Float) (scale : Float) (means : List Float) (paths : Paths) (resets : ℕ) (shadow : List Float)
+      → let spectrum = spectrumOf (framed error) in
+      let rates = ratesOf scale means (farPowerTo (ring .spectra) (ring .partitions)) in
+      updated runs ring error scale means paths resets shadow .overs
+      ≡ pick runs (iter (λ p n. n + oversOf (gradientOf (metBy ring p) spectrum rates)) 0 (ring .partitions)) 0
+  pub suppressor : (runs protect : Bool) (error estimate : List Float) (suppressor : Suppressor)
+      → let after = suppressed runs protect error estimate suppressor .suppressor in
+      suppressed runs protect error estimate suppressor .overs
+      ≡ pick runs (oversOf (shaped (averaged (after .gain)) (spectrumOf (after .«error_window»)))) 0
+
+-- and a block tells their sum
+abbrev pub BlockTells : Type 0
+BlockTells = (e : Engine) (far : List Float) (b : Block)
+    → let ring = ringIn e far in
+    let f = filteredIn e far b in
+    let d = detectorIn e far b in
+    let j = compares (b .adapt) (heardIn e far .active) (b .near) (energyOf (b .near) (b .valid)) (b .valid) f (e .state .mic) in
+    let update = updated (updates (b .adapt) f j) ring (f .shadowError) (d .«step_scale») (e .state .mic .«far_power_mean») (j .comparison .paths) (f .output .resets) (j .comparison .shadow) in
+    let suppression = suppressed (suppresses (e .state .suppress) (heardIn e far .far .«far_active») f) (d .«protect_output») (f .output .error) (f .output .spectrum) (f .output .suppressor) in
+    runBlock e far b .told .overs
+    ≡ oversOf (echoOf (e .shadow) ring) + oversOf (echoOf (e .output) ring) + update .overs + suppression .overs
+
+-- "The block report everywhere gains one number, 0 where no block ran": refusals included; else it is the last block's alone (WhyLast)
+pub record Told (e : Engine) (near far out : List Float) : Type 0 where
+  pub process : let a = tau.processOf e near far out .answer in
+      a .report .overs ≡ oversIn (a .report .last)
+  pub flush : let a = tau.flushOf e out .answer in
+      a .report .overs ≡ oversIn (a .report .last)
+  pub processRefused : let a = tau.processOf e near far out .answer in
+      (a .refusal ≡ 0 → ⊥) → a .report .overs ≡ 0
+  pub flushRefused : let a = tau.flushOf e out .answer in
+      (a .refusal ≡ 0 → ⊥) → a .report .overs ≡ 0
+  pub processWaits : let a = tau.processOf e near far out .answer in
+      a .refusal ≡ 0 → e .state .carried + length near ≤ 255 → a .report .overs ≡ 0
+  pub flushWaits : let a = tau.flushOf e out .answer in
+      a .refusal ≡ 0 → e .state .carried ≡ 0 → a .report .overs ≡ 0
+
+abbrev pub OversReported : Type 0
+OversReported = (e : Engine) (near far out : List Float) → Told e near far out
+
+-- of a call from an empty carry that fills k + 1 blocks it is the number of block k
+abbrev pub OversLast : Type 0
+OversLast = (e : Engine) (near far out : List Float) (k : ℕ) → Good e → e .state .carried ≡ 0
+    → tau.processOf e near far out .answer .refusal ≡ 0 → length near / 256 ≡ suc k
+    → tau.processOf e near far out .answer .report .overs
+    ≡ oversIn (blockOn (blocksOf k e near far .engine) (take 256 (drop (256 * k) near)) (take 256 (drop (256 * k) far)) .last)

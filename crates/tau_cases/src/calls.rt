@@ -31,6 +31,7 @@ pub struct Got {
     pub outcome: u32,
     pub leak: u64,
     pub reason: u32,
+    pub overs: u32,
     pub hash: u64,
 }
 
@@ -184,6 +185,7 @@ fn answered(a: Answer, hash: u64) -> Got {
         outcome: number(outcome),
         leak: numbers::to_bits(leak_of(outcome)),
         reason: reason_number(reason_of(last)),
+        overs: report.overs,
         hash,
     }
 }
@@ -216,6 +218,7 @@ fn quiet(is_known: bool, refusal: u32, state: TauCanceller) -> Got {
         outcome: 0,
         leak: 0,
         reason: 0,
+        overs: 0,
         hash: 0,
     }
 }

@@ -11,7 +11,7 @@
 //     40        halves: how much is lent of the far spectra, and of the output buffer
 //     41        halves: the refusal, and the number of delivered samples
 //     42, 43    the report: the transfers, and the resets
-//     44        halves, the report: the reason, 0 to 9 as `reason_number` has them; and kept for the count of request K8
+//     44        halves, the report: the reason, 0 to 9 as `reason_number` has them; and the overs
 //     45, 46    kept for the powers of request K10: how much is lent of them, and their hash
 //
 // A field without a use is 0.
@@ -141,7 +141,7 @@ fn finished(tally: Tally, line: &[u8], got: Got, shadow: u64, output: u64, spect
         halves(got.refusal as u64, got.delivered as u64),
         got.transfers,
         got.divergence_resets,
-        halves(got.reason as u64, 0),
+        halves(got.reason as u64, got.overs as u64),
         0,
         0,
     ];

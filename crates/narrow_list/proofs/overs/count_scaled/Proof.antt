@@ -1,9 +1,9 @@
 -- `narrow_list::overs::count_scaled` meets its contract. Assumes nothing.
-use mathlib.Core.Path.{_≡_, refl, sym, ap, _∙_}
+use mathlib.Core.Path.{_≡_, sym, ap, _∙_}
 use Prim.Native.Nat.{ℕ, _-_, _≤_}
 use native.Mathlib.Omega.{arith}
 use borrow.Author.Needs.{needs}
-use lib.Ieee.{Float, nan, binary64, mul}
+use lib.Ieee.{nan, binary64, mul}
 use lib.ListN.{length, getD}
 use Rattle.laws.specs.Tables.{table}
 use Rattle.narrow_list.specs.Overs.{overCount}
