@@ -1,6 +1,6 @@
 //! What the programs `why` and `why_records` are run on, the captures of why_captures.rs, and what they have to say of them, by the reasons
-//! of the Rust's own branches (oracle/rust). `oracle/lists` has it write the files: why WORD, where WORD is `pairs` or `records`, and then
-//! `stdin` or `stdout`. With WORD alone it says the same of what is on standard input.
+//! of the Rust's own branches and the counts of its own narrowings (oracle/rust). `oracle/lists` has it write the files: why WORD, where
+//! WORD is `pairs` or `records`, and then `stdin` or `stdout`. With WORD alone it says the same of what is on standard input.
 
 mod aspeyruni;
 #[allow(dead_code)] // the Rust's text, whole
@@ -29,7 +29,7 @@ mod why_captures;
 use aspeyruni::tau::reason;
 use record::{FLUSH, PAIRS, RESET};
 use std::io::{Read, Write};
-use tau_calls::{Reason, REASONS};
+use tau_calls::{Reason, Told, REASONS};
 use tau_reference::Continued;
 
 const BLOCK: usize = 256;
@@ -40,7 +40,7 @@ struct Watch {
     engine: Continued,
     waiting: usize,
     /// Of each block.
-    reasons: Vec<Reason>,
+    blocks: Vec<Told>,
     /// Where the stretch begins that is not told of yet: at the next block, if there is none.
     first: usize,
     text: String,
@@ -69,19 +69,25 @@ fn main() {
     std::io::stdout().write_all(&written).unwrap();
 }
 
-/// Stops where a reason has come in neither capture, where no two moves in a row have one leak, and where none have two.
+/// Stops where a reason has come in neither capture, where no two moves in a row have one leak, and where none have two; and where no
+/// move goes over, or no two blocks in a row differ in what went over alone.
 fn check_captures() {
     let captures = [
         Watch::of_pairs(&why_captures::pairs()),
         Watch::of_records(&why_captures::records()),
     ];
-    let reasons = captures.map(|watch| watch.reasons);
+    let blocks = captures.map(|watch| watch.blocks);
     for number in reason::FLUSH_BLOCK..=reason::MOVED {
-        let has_come = reasons.iter().flatten().any(|r| r.number() == number);
+        let has_come = blocks.iter().flatten().any(|b| b.reason.number() == number);
         assert!(has_come, "no block: {}", REASONS[number as usize]);
     }
-    let in_a_row = reasons.iter().flat_map(|reasons| reasons.windows(2));
-    let leaks = in_a_row.filter_map(|two| match two {
+    let is_over = |b: &Told| matches!(b.reason, Reason::Moved(_)) && b.overs > 0;
+    assert!(blocks.iter().flatten().any(is_over), "no move goes over");
+    let in_a_row = || blocks.iter().flat_map(|blocks| blocks.windows(2));
+    let has_alike =
+        in_a_row().any(|two| two[0].reason == two[1].reason && two[0].overs != two[1].overs);
+    assert!(has_alike, "no two blocks in a row differ in that alone");
+    let leaks = in_a_row().filter_map(|two| match [two[0].reason, two[1].reason] {
         [Reason::Moved(a), Reason::Moved(b)] => Some([a, b]),
         _ => None,
     });
@@ -95,7 +101,7 @@ impl Watch {
         Watch {
             engine: Continued::created(4, true),
             waiting: 0,
-            reasons: Vec::new(),
+            blocks: Vec::new(),
             first: 0,
             text: String::new(),
         }
@@ -152,22 +158,22 @@ impl Watch {
 
     /// What the last call's block adds, where it ran one.
     fn note(&mut self) {
-        let reason = self.engine.reason();
-        if reason == Reason::NoBlock {
+        let told = self.engine.told();
+        if told == Told::NOTHING {
             return;
         }
-        if self.reasons.last() != Some(&reason) {
+        if self.blocks.last() != Some(&told) {
             self.end();
         }
-        self.reasons.push(reason);
+        self.blocks.push(told);
     }
 
     /// The line of the stretch, where there is one.
     fn end(&mut self) {
-        let Some(reason) = self.reasons[self.first..].last() else {
+        let Some(Told { reason, overs }) = self.blocks[self.first..].last() else {
             return;
         };
-        let (first, last) = (self.first, self.reasons.len() - 1);
+        let (first, last) = (self.first, self.blocks.len() - 1);
         let which = if first == last {
             format!("block {first}")
         } else {
@@ -178,26 +184,35 @@ impl Watch {
             Reason::Moved(leak) => format!(", leak {}", decimal(*leak)),
             _ => String::new(),
         };
-        self.text += &format!("{which}: {words}{leak}\n");
-        self.first = self.reasons.len();
+        let over = match overs {
+            0 => String::new(),
+            count => format!(", {count} went over"),
+        };
+        self.text += &format!("{which}: {words}{leak}{over}\n");
+        self.first = self.blocks.len();
     }
 
     fn summary(mut self) -> String {
         self.end();
-        let blocks = self.reasons.len();
+        let blocks = self.blocks.len();
         if blocks == 0 {
             return self.text + "0 blocks\n";
         }
         let plural = if blocks == 1 { "" } else { "s" };
         self.text += &format!("\n{blocks} block{plural}\n");
         for (number, words) in (0..).zip(REASONS) {
-            let of_number = self.reasons.iter().filter(|r| r.number() == number);
-            let count = of_number.count();
-            if count > 0 {
-                self.text += &format!("{count} {words}\n");
-            }
+            self.row(words, |told| told.reason.number() == number);
         }
+        self.row("went over", |told| told.overs > 0);
         self.text
+    }
+
+    /// How many blocks are such, where there are any.
+    fn row(&mut self, words: &str, is_such: impl Fn(&Told) -> bool) {
+        let count = self.blocks.iter().filter(|told| is_such(told)).count();
+        if count > 0 {
+            self.text += &format!("{count} {words}\n");
+        }
     }
 }
 

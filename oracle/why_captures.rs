@@ -8,21 +8,29 @@ use crate::recipe::sounds_of;
 use crate::record::{self, FLUSH, MOST_PAYLOAD, OUTPUT, PAIRS, RESET};
 use crate::{BLOCK, PAIR};
 
-/// An echo as large as samples get; the far end louder while near is muted, so that both filters diverge; and near muted on, so that the
-/// output's power stays 0. At the end a part of a block, and three bytes of a pair that does not come.
+/// A large echo, late by less than a block. Then the far end louder, in a block's last samples: these go over in the half of the estimates
+/// that the block drops, as its echo is still to come; and in the next block, while near is muted, so that both filters diverge. Near stays
+/// muted, so that the output's power stays 0. At the end a part of a block, and three bytes of a pair that does not come.
 pub fn pairs() -> Vec<u8> {
     let scenes = [
-        (SILENCE, 0.0, 2 * BLOCK),
+        (SILENCE, 2 * BLOCK),
         // 63 blocks before the detector is established, 5 before the quiet streak is long enough, and 8 that move
-        (FULL, 1.6e38, 76 * BLOCK),
-        (LOUD, 0.0, BLOCK),
-        (FULL, 0.0, 4 * BLOCK + 100),
+        (FULL, 76 * BLOCK - 50),
+        (LOUD, 50 + BLOCK),
+        (FULL, 4 * BLOCK + 100),
     ];
-    let heard = (1..).zip(scenes).flat_map(|(number, (far, gain, count))| {
-        let [near, far] = sounds_of(word_of(number), SILENCE, far, gain).samples(count);
-        echo::pairs(&near, &far)
+    let sounds = (1..).zip(scenes).flat_map(|(number, (far, count))| {
+        let [_, far] = sounds_of(word_of(number), SILENCE, far, 0.0).samples(count);
+        far
     });
-    heard.chain([1, 2, 3]).collect()
+    let far: Vec<f32> = sounds.collect();
+    let (delay, muted) = (100, 78 * BLOCK);
+    let mut near = vec![0.0; far.len()];
+    for k in delay..muted {
+        near[k] = 5e37 * far[k - delay];
+    }
+    let heard = echo::pairs(&near, &far);
+    heard.into_iter().chain([1, 2, 3]).collect()
 }
 
 /// Calls of every kind, and then from a reset on an echo that is learnt, lost and found again.

@@ -39,10 +39,10 @@ fn every_line_comes_to_its_answer() {
     for line in &lines {
         replay.take(line);
     }
-    assert_eq!(lines.len(), 632);
+    assert_eq!(lines.len(), 737);
     let owned = Owned {
-        taken: 583,
-        refused: 49,
+        taken: 685,
+        refused: 52,
     };
     assert_eq!(replay.owned, owned);
 }
