@@ -5,13 +5,15 @@ ghost use Rattle.numbers.specs.Promises.{IsFinite, FiniteOrZero};
 pub fn is_finite(x: f64) -> bool
     ensures { λ r. ⌜ IsFinite x r ⌝ }
 {
-    x - x == 0.0
+    let nothing = x - x;
+    nothing == 0.0
 }
 
 pub fn is_finite32(x: f32) -> bool
     ensures { λ r. ⌜ IsFinite x r ⌝ }
 {
-    x - x == 0.0f32
+    let nothing32 = x - x;
+    nothing32 == 0.0
 }
 
 // What an engine reads a sample as: a non-finite one as +0.0.

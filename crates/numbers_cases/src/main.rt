@@ -5,6 +5,7 @@
 // is not used is 0, and a pattern of 32 bits stands in the low half. The letters are those in `answer`.
 // Every NaN is the same answer: `to_bits` and `to_bits32` have one pattern for all, and so has the list.
 ghost use mathlib.Core.Path.{_≡_};
+ghost use Prim.Native.Nat.{_≤_};
 ghost use lib.ListN.{length};
 use cases::Tally;
 
@@ -94,11 +95,16 @@ fn listed(x: f64, place: u64, z: f64) -> u64 {
 // How many of such a list went over, narrowed into as much room as the upper half of `place` says.
 fn counted(x: f64, place: u64, z: f64) -> u64 {
     let at = (place % 33) as usize;
-    let room = (place / 0x1_0000_0000 % 34) as usize;
     let mut list = [z; 33];
     list[at] = x;
     let mut out = [0.0f32; 33];
-    narrow_list::narrow_into(&list, &mut out[..room]) as u64
+    counted_in(&list, &mut out, (place / 0x1_0000_0000 % 34) as usize)
+}
+
+fn counted_in(list: &[f64], out: &mut [f32], room: usize) -> u64
+    requires { ⌜ room ≤ length (now out) ⌝ }
+{
+    narrow_list::narrow_into(list, &mut out[..room]) as u64
 }
 
 // The narrowed number, and in the upper half what narrowing did.

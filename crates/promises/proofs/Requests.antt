@@ -301,7 +301,13 @@ steps-tell = record {
 
 pub block-tells : BlockTells
 unfolding runBlock listen filtered compares
-block-tells e far b = rw (← steps-tell .shadow (ringIn e far) (b .near) (e .state .mic .paths) (e .state .mic .«divergence_resets») (e .shadow), ← steps-tell .output (ringIn e far) (b .near) _ _ _ _ (e .output))
+block-tells e far b =
+    let m = e .state .mic in
+    let first = shadowed (ringIn e far) (b .near) (m .paths) (m .«divergence_resets») (e .shadow) in
+    rw (
+      ← steps-tell .shadow (ringIn e far) (b .near) (m .paths) (m .«divergence_resets») (e .shadow),
+      ← steps-tell .output (ringIn e far) (b .near) (first .paths) (m .suppressor) (first .resets) (first .shadow) (e .output),
+    )
 
 process-overs : (e : Engine) (near far out : List Float) → tau.processOf e near far out .answer .report .overs ≡ oversIn (tau.processOf e near far out .answer .report .last)
 unfolding tau.processOf reportOf

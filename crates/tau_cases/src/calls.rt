@@ -19,7 +19,7 @@ ghost use mathlib.Core.Path.{_≡_};
 ghost use lib.ListN.{length};
 
 // What a line comes to, but for the lent buffers: where there is a call as it says, its answer, the outcome and the reason by their
-// numbers and the leak by its bits, and the output buffer's hash.
+// numbers, the overs, the leak by its bits, and the output buffer's hash.
 pub struct Got {
     pub is_known: bool,
     pub refusal: u32,
@@ -31,7 +31,7 @@ pub struct Got {
     pub outcome: u32,
     pub leak: u64,
     pub reason: u32,
-    pub overs: u32,
+    pub overs: u64,
     pub hash: u64,
 }
 
@@ -185,9 +185,13 @@ fn answered(a: Answer, hash: u64) -> Got {
         outcome: number(outcome),
         leak: numbers::to_bits(leak_of(outcome)),
         reason: reason_number(reason_of(last)),
-        overs: report.overs,
+        overs: wide(report.overs),
         hash,
     }
+}
+
+fn wide(n: u32) -> u64 {
+    n as u64
 }
 
 // Creation and reset deliver and report nothing.

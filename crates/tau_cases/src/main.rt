@@ -141,7 +141,7 @@ fn finished(tally: Tally, line: &[u8], got: Got, shadow: u64, output: u64, spect
         halves(got.refusal as u64, got.delivered as u64),
         got.transfers,
         got.divergence_resets,
-        halves(got.reason as u64, got.overs as u64),
+        halves(got.reason as u64, got.overs),
         0,
         0,
     ];
