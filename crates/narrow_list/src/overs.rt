@@ -2,7 +2,7 @@
 use crate::over_one;
 use crate::total;
 use numbers::HIGH_SQUARE;
-use numbers::narrow_told;
+use numbers::narrow;
 ghost use mathlib.Core.Path.{_≡_};
 ghost use mathlib.Core.Bool.{true};
 ghost use Prim.Native.Nat.{ℕ, _+_, _≤_, _<_};
@@ -65,9 +65,8 @@ fn count_scaled(xs: &[f64], scale: f64) -> usize
     let mut overs = 0usize;
     let mut k = 0usize;
     while k < xs.len() {
-        let told = narrow_told(xs[k] * scale);
-        let kind = told.kind;
-        overs += over_one(kind);
+        let x = xs[k] * scale;
+        overs += over_one(x, narrow(x));
         k += 1;
     }
     overs

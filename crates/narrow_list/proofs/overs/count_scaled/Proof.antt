@@ -33,7 +33,7 @@ count-scaled-spec =
     (λ c. search needs)
     (λ c. let told = c .before in
     let at = told .before .before .before .loop in
-    (omega arith, rw (at .inv .1, c .over-one .ensures .0, told .narrow-told .ensures) (sym (overs-next (at .k) _))))
+    (omega arith, rw (at .inv .1, c .over-one .ensures .0) (sym (overs-next (at .k) _))))
     (λ c. let at = c .before .loop in
     let xs = c .before .before .before .args .xs .now in
     let e : at .k ≡ length xs = omega (arith, at .inv .0) in
