@@ -94,7 +94,7 @@ fn listed(x: f64, place: u64, z: f64) -> u64 {
 
 // How many of such a list went over, narrowed into as much room as the upper half of `place` says.
 fn counted(x: f64, place: u64, z: f64) -> u64 {
-    let at = (place % 33) as usize;
+    let at = (low(place) % 33) as usize;
     let mut list = [z; 33];
     list[at] = x;
     let mut out = [0.0f32; 33];
