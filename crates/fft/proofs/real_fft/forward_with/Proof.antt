@@ -30,9 +30,14 @@ forward-with-spec =
     let n = lengths (at-args .args .table .now) (at-args .args .scratch .now) (at-lent .lent .result) (at-lent .lent .ensures) (at-if1 .if1 .left) in search (needs, n))
     (λ c. search needs)
     (λ c. search needs)
-    (λ c.
-    let n = lengths (c .before .before .before .before .before .before .before .before .before .before .before .before .before .before .before .before .before .before .before .before .args .table .now) (c .before .before .before .before .before .before .before .before .before .before .before .before .before .before .before .before .before .before .before .before .args .scratch .now) (c .before .before .before .before .before .before .before .before .before .before .before .before .before .before .lent .result) (c .before .before .before .before .before .before .before .before .before .before .before .before .before .before .lent .ensures) (c .before .before .before .before .before .before .before .before .before .before .before .before .before .if1 .left) in (
-      pick-yes _ _ _ (rw (← c .before .before .before .before .before .before .before .before .before .before .before .before .before .before .lent .ensures, not-false (c .before .before .before .before .before .before .before .before .before .before .before .before .before .before .lent .result) (c .before .before .before .before .before .before .before .before .before .before .before .before .before .if1 .left), eq-eqb _ _ (c .before .before .before .before .before .before .before .before .before .before .before .before .if2 .left), eq-eqb _ _ (c .before .before .before .before .before .before .before .before .before .before .before .if3 .left)))
-          (rw (c .before .before .before .before .transform-loaded .ensures, c .before .before .before .before .before .before .before .before .before .load-samples .ensures, loaded-bins _ _ _ (c .before .before .before .before .before .before .before .before .before .before .before .before .if2 .left) (n .scratch))),
-      λ (h : 0 ≡ 2). absurd (omega (arith, h)),
-    )))
+    (λ c. let transformed = c .before .before .before .before in
+    let filled = transformed .before .before .before .before .before in
+    let at-if3 = filled .before .before in
+    let at-if2 = at-if3 .before in
+    let at-if1 = at-if2 .before in
+    let lent = at-if1 .before .lent in
+    let a = at-if1 .before .before .before .before .before .before .before .args in
+    let n = lengths (a .table .now) (a .scratch .now) (lent .result) (lent .ensures) (at-if1 .if1 .left) in
+    (pick-yes _ _ _ (rw (← lent .ensures, not-false (lent .result) (at-if1 .if1 .left), eq-eqb _ _ (at-if2 .if2 .left), eq-eqb _ _ (at-if3 .if3 .left)))
+    (rw (transformed .transform-loaded .ensures, filled .load-samples .ensures, loaded-bins _ _ _ (at-if2 .if2 .left) (n .scratch))),
+    λ (h : 0 ≡ 2). absurd (omega (arith, h)))))

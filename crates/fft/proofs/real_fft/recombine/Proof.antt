@@ -28,7 +28,11 @@ recombine-spec =
     (λ c κs. omega arith)
     (λ c. let at-bin = c .before .before .before .before in
     let at-args = at-bin .before .before .before .before in
-    let a = at-args .args in let n : length (c .before .before .put .last .0) ≡ 514 = c .before .before .put .kept .0 ∙ at-args .pre .1 .1 in (n, omega arith, omega arith, n, rw (c .before .before .put .ensures, at-bin .bin .ensures) (over2-first (λ k. binOf (a .table .now) (pointsOf (a .z .now)) k .re) (λ k. binOf (a .table .now) (pointsOf (a .z .now)) k .im) (a .out .now) (omega (arith, at-args .pre .1 .1)))))
+    let a = at-args .args in
+    let put = c .before .before .put in
+    let bins = binOf (a .table .now) (pointsOf (a .z .now)) in
+    let n : length (put .last .0) ≡ 514 = put .kept .0 ∙ at-args .pre .1 .1 in
+    (n, omega arith, omega arith, n, rw (put .ensures, at-bin .bin .ensures) (over2-first (λ k. bins k .re) (λ k. bins k .im) (a .out .now) (omega (arith, at-args .pre .1 .1)))))
     (λ c. omega arith)
     (λ c κs. omega arith)
     (λ c κs. omega arith)

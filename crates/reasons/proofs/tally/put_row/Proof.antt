@@ -21,15 +21,22 @@ put-row-spec =
     (λ c. search needs)
     (λ c κs. search needs)
     (λ c. search needs)
-    (λ c. let count = c .before .before .before .before .before .before .before .before .before .before .before .before .before .before .before .before .put-decimal in
-    let words = c .before .before .before .before .before .before .before .put-words .ensures .1 ∙ ap (λ (l : List ℕ). l ++ wordsOf (c .before .before .before .before .before .before .before .before .before .before .before .before .before .before .before .before .before .before .before .before .args .number)) (c .before .before .before .before .before .before .before .before .before .before .before .put .ensures .1) in (
-      omega (arith, count .ensures .0, c .before .before .before .before .before .before .before .before .before .before .before .put .ensures .0, c .before .before .before .before .before .before .before .put-words .ensures .0, c .before .before .put2 .ensures .0),
+    (λ c. let ended = c .before .before .put2 in
+    let at-words = c .before .before .before .before .before .before .before in
+    let at-blank = at-words .before .before .before .before in
+    let at-count = at-blank .before .before .before .before .before in
+    let at-if1 = at-count .before .before in
+    let count = at-count .put-decimal in
+    let blank = at-blank .put .ensures in
+    let named = at-words .put-words .ensures in
+    let words = named .1 ∙ ap (λ (l : List ℕ). l ++ wordsOf (at-if1 .before .before .args .number)) (blank .1) in (
+      omega (arith, count .ensures .0, blank .0, named .0, ended .ensures .0),
       record {
-        none = λ k. absurd (c .before .before .before .before .before .before .before .before .before .before .before .before .before .before .before .before .before .before .if1 .left k);
+        none = λ k. absurd (at-if1 .if1 .left k);
         some = λ k. record {
           counted = take (count .result) (count .last .1 .1 .0);
           is-count = count .ensures .1;
-          is-row = c .before .before .put2 .ensures .1 ∙ ap (λ (l : List ℕ). l ++ (10 ∷ [])) words;
+          is-row = ended .ensures .1 ∙ ap (λ (l : List ℕ). l ++ (10 ∷ [])) words;
         };
       },
     )))

@@ -24,9 +24,11 @@ step-spec =
     (λ c κs. search needs)
     (λ c. search needs)
     (λ c. search needs)
-    (λ c. step-is _ _ _ _ _ _ _ _ _ _ _ _ _ _ _ _
-    (c .before .before .before .before .before .before .before .before .before .before .before .before .before .before .before .before .next-position .ensures .0)
-    (length-set (c .before .before .before .before .before .before .before .before .before .before .before .before .before .before .before .before .before .before .before .args .history .now) (c .before .before .before .before .before .before .before .before .before .before .before .before .before .before .before .before .next-position .result) (c .before .before .before .before .before .before .before .before .before .before .before .before .before .before .before .before .before .before .before .args .far) ∙ c .before .before .before .before .before .before .before .before .before .before .before .before .before .before .before .before .before .before .before .pre .1 .0)
+    (λ c. let at-position = c .before .before .before .before .before .before .before .before .before .before .before .before .before .before .before .before in
+    let s = at-position .before .before .before in
+    step-is _ _ _ _ _ _ _ _ _ _ _ _ _ _ _ _
+    (at-position .next-position .ensures .0)
+    (length-set (s .args .history .now) (at-position .next-position .result) (s .args .far) ∙ s .pre .1 .0)
     (c .before .before .before .before .before .before .before .before .before .before .before .before .before .judge .ensures .0)
     (c .before .before .before .before .before .before .before .before .before .before .before .before .before .judge .ensures .1)
     (c .before .before .before .before .before .before .before .before .before .before .before .before .narrow .ensures)
