@@ -37,7 +37,8 @@ forward-with-spec =
     let at-if1 = at-if2 .before in
     let lent = at-if1 .before .lent in
     let a = at-if1 .before .before .before .before .before .before .before .args in
-    let n = lengths (a .table .now) (a .scratch .now) (lent .result) (lent .ensures) (at-if1 .if1 .left) in
-    (pick-yes _ _ _ (rw (← lent .ensures, not-false (lent .result) (at-if1 .if1 .left), eq-eqb _ _ (at-if2 .if2 .left), eq-eqb _ _ (at-if3 .if3 .left)))
-    (rw (transformed .transform-loaded .ensures, filled .load-samples .ensures, loaded-bins _ _ _ (at-if2 .if2 .left) (n .scratch))),
-    λ (h : 0 ≡ 2). absurd (omega (arith, h)))))
+    let n = lengths (a .table .now) (a .scratch .now) (lent .result) (lent .ensures) (at-if1 .if1 .left) in (
+      pick-yes _ _ _ (rw (← lent .ensures, not-false (lent .result) (at-if1 .if1 .left), eq-eqb _ _ (at-if2 .if2 .left), eq-eqb _ _ (at-if3 .if3 .left)))
+          (rw (transformed .transform-loaded .ensures, filled .load-samples .ensures, loaded-bins _ _ _ (at-if2 .if2 .left) (n .scratch))),
+      λ (h : 0 ≡ 2). absurd (omega (arith, h)),
+    )))
