@@ -41,20 +41,6 @@ impl List {
     }
 }
 
-/// One number all over.
-pub fn one(x: f64) -> Recipe64 {
-    Recipe64::noise(0, [x.to_bits(), 0])
-}
-
-/// One number alone, by its bits, and +0.0 all over else.
-pub fn alone(place: usize, mark: u64) -> Recipe64 {
-    Recipe64 {
-        place: place as u64,
-        mark,
-        ..one(0.0)
-    }
-}
-
 /// The edges once more, with other numbers at the same bounds.
 fn edges_again(list: &mut List) {
     // 1.05 times a near power that is no power of 2
@@ -298,13 +284,13 @@ fn overflows(list: &mut List) {
     for array in [SHADOW, OUTPUT] {
         // one weight, the imaginary part of bin 1: of one far sample it gives a sine, from 0 on
         list.learnt(1, |_| ());
-        list.make_by(array, alone(3, huge.to_bits()));
+        list.make_by(array, Recipe64::alone(3, huge.to_bits()));
         let mut sounds = sounds_of(SOME, LOW, FULL, 0.0);
         list.run('f', sounds, 1, 1);
         // equal weights: of one far sample they give one huge sample at its place, in the block before, and about it less and less
         list.learnt(1, |_| ());
-        list.make_by(WINDOW, alone(384, 1f32.to_bits().into()));
-        list.make_by(array, one(2f64.powi(130)));
+        list.make_by(WINDOW, Recipe64::alone(384, 1f32.to_bits().into()));
+        list.make_by(array, Recipe64::one(2f64.powi(130)));
         sounds.far = Recipe::of(0.0);
         list.run('b', sounds, BLOCK, 1);
     }
@@ -314,7 +300,7 @@ fn overflows(list: &mut List) {
     });
     // of partition 1, whose slot is silent
     for (array, x) in [(SHADOW, 1.7e308f64), (OUTPUT, -1.7e308)] {
-        list.make_by(array, alone(NUMBERS, x.to_bits()));
+        list.make_by(array, Recipe64::alone(NUMBERS as u64, x.to_bits()));
     }
     list.block_of(SOME, LOW, SOUND, 0.0);
 }
@@ -360,8 +346,8 @@ fn far_silent(list: &mut List) {
     // nor does a count below 64, with which an active block would give a step scale of 1 and no verdicts
     let states: [(fn(&mut Detector), u64, Recipe64); 3] = [
         (|d| d.step_scale = 0.5, WINDOW, Recipe64::noise(5, SOUND)),
-        (|d| d.protect_output = true, ECHO, one(1e9)),
-        (|d| d.dtd_collapsed = true, ECHO, one(1e9)),
+        (|d| d.protect_output = true, ECHO, Recipe64::one(1e9)),
+        (|d| d.dtd_collapsed = true, ECHO, Recipe64::one(1e9)),
     ];
     for (change, array, recipe) in states {
         list.learnt(1, |s| {

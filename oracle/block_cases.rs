@@ -115,16 +115,8 @@ impl List {
 
     /// An array, of which one number is of its own where the array has the place.
     fn make_with(&mut self, array: u64, kind: Kind, place: u64, mark: u64) {
-        let word = self.seed();
-        self.make_by(
-            array,
-            Recipe64 {
-                word,
-                kind,
-                place,
-                mark,
-            },
-        );
+        let noise = Recipe64::noise(self.seed(), kind);
+        self.make_by(array, noise.with(place, mark));
     }
 
     fn make_by(&mut self, array: u64, recipe: Recipe64) {

@@ -4,7 +4,6 @@
 
 use crate::aspeyruni::tau::reason::*;
 use crate::aspeyruni::tau::*;
-use crate::block_borders::{alone, one};
 use crate::inputs::word_of;
 use crate::kinds::*;
 use crate::recipe::{Recipe, Sounds};
@@ -139,7 +138,7 @@ fn at_the_border(list: &mut List) {
         (SHADOW, below, 0),
         (OUTPUT, -below, 0),
     ] {
-        list.make_by(array, alone(0, weight.to_bits()));
+        list.make_by(array, Recipe64::alone(0, weight.to_bits()));
         list.hear(Recipe::of(0.0), Recipe::of(1.0));
         list.overs(overs);
     }
@@ -162,8 +161,8 @@ fn by_weights(list: &mut List) {
     }
     for (array, inverse, size, overs) in [(SHADOW, Shadow, 1.25, 1), (OUTPUT, Output, 2.0, 3)] {
         list.learnt(1, |_| {});
-        list.make_by(WINDOW, alone(384, 1f32.to_bits().into()));
-        list.make_by(array, one(size * 2f64.powi(128)));
+        list.make_by(WINDOW, Recipe64::alone(384, 1f32.to_bits().into()));
+        list.make_by(array, Recipe64::one(size * 2f64.powi(128)));
         list.hear(Recipe::noise(word_of(1), LOW), Recipe::of(0.0));
         list.over_in_dropped(inverse);
         list.overs(overs);
@@ -175,7 +174,7 @@ fn by_weights(list: &mut List) {
 fn by_gains(list: &mut List) {
     let loud = |list: &mut List, change: fn(&mut TauCanceller)| {
         list.learnt(1, change);
-        list.make_by(GAIN, one(8.0));
+        list.make_by(GAIN, Recipe64::one(8.0));
     };
     loud(list, |_| {});
     list.block_of(word_of(1), HUGE, FULL, 0.0);
@@ -201,7 +200,7 @@ fn by_step_scale(list: &mut List) {
             s.far.far_energy_peak = 1e9;
             s.mic.detector.step_scale = 1e60;
         });
-        list.make_by(GAIN, one(gain));
+        list.make_by(GAIN, Recipe64::one(gain));
         list.make_by(SPECTRA, Recipe64::noise(word_of(1), SOUND64));
         list.block_of(word_of(2), HUGE, SOUND, 0.0);
         list.over_in(inverses);
@@ -233,20 +232,20 @@ fn not_counted(list: &mut List) {
         (OUTPUT, f64::NAN),
         (SHADOW, f64::MAX),
     ] {
-        list.make_by(array, alone(0, weight.to_bits()));
+        list.make_by(array, Recipe64::alone(0, weight.to_bits()));
         list.block_of(word_of(1), LOW, FULL, 0.5);
         list.over_in(&[]);
         assert!(list.taken.diverged || list.taken.shadow_diverged);
     }
     // some points infinite, and others finite and over
     list.learnt(1, |_| {});
-    list.make_by(WINDOW, alone(384, 1f32.to_bits().into()));
-    list.make_by(SHADOW, one(2f64.powi(1021)));
+    list.make_by(WINDOW, Recipe64::alone(384, 1f32.to_bits().into()));
+    list.make_by(SHADOW, Recipe64::one(2f64.powi(1021)));
     list.hear(Recipe::noise(word_of(1), LOW), Recipe::of(0.0));
     list.overs(360);
     list.learnt(1, |_| {});
     list.make_by(WINDOW, Recipe64::noise(0, [1f32.to_bits().into(), 0]));
-    list.make_by(OUTPUT, alone(0, f64::from(f32::MIN).to_bits()));
+    list.make_by(OUTPUT, Recipe64::alone(0, f64::from(f32::MIN).to_bits()));
     list.hear(Recipe::of(f32::MAX), Recipe::of(1.0));
     list.over_in(&[]);
     list.because(OUTPUT_DIVERGED);

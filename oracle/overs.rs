@@ -215,12 +215,7 @@ impl Both {
             _ => [number, SIGN | DIGITS],
         };
         let place = self.random.below(NUMBERS) as u64;
-        let recipe = Recipe64 {
-            word,
-            kind: noise,
-            place,
-            mark: number,
-        };
+        let recipe = Recipe64::noise(word, noise).with(place, number);
         let [a, b, c] = &mut self.rust.buffers;
         recipe.make(array, state, [a, b, c]);
     }

@@ -697,12 +697,7 @@ impl Both {
             NEAR_CARRY | FAR_CARRY | WINDOW | ERROR_WINDOW => self.random.one_of(&KINDS),
             _ => self.random.one_of(&KINDS64),
         };
-        let recipe = Recipe64 {
-            word: self.random.seed(),
-            kind,
-            place: u64::MAX,
-            mark: 0,
-        };
+        let recipe = Recipe64::noise(self.random.seed(), kind);
         recipe.make(array, s, [&mut [], &mut [], &mut []]);
     }
 

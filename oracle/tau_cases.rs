@@ -212,6 +212,17 @@ impl List {
         self.process_any(sounds, [count; 2], delivers + 3);
     }
 
+    /// So many blocks of pairs, in calls as long as they may be.
+    fn long(&mut self, mut sounds: Sounds, blocks: usize) {
+        let mut left = blocks * BLOCK;
+        while left > 0 {
+            let count = left.min(MAX_PAIRS);
+            self.pairs(sounds, count);
+            sounds = after(sounds, count);
+            left -= count;
+        }
+    }
+
     fn noise(&mut self, near: Kind, far: Kind, gain: f32) -> Sounds {
         Sounds::noise(&mut self.random, near, far, gain)
     }
@@ -281,16 +292,8 @@ impl List {
 
     /// No call: an array, of which one number is of its own where the array has the place.
     fn make_with(&mut self, array: u64, kind: Kind, place: u64, mark: u64) {
-        let word = self.seed();
-        self.make_by(
-            array,
-            Recipe64 {
-                word,
-                kind,
-                place,
-                mark,
-            },
-        );
+        let noise = Recipe64::noise(self.seed(), kind);
+        self.make_by(array, noise.with(place, mark));
     }
 
     fn make_by(&mut self, array: u64, recipe: Recipe64) {

@@ -54,6 +54,25 @@ impl Recipe64 {
         }
     }
 
+    /// With that number at that place.
+    pub fn with(self, place: u64, mark: u64) -> Recipe64 {
+        Recipe64 {
+            place,
+            mark,
+            ..self
+        }
+    }
+
+    /// One number all over.
+    pub fn one(x: f64) -> Recipe64 {
+        Recipe64::noise(0, [x.to_bits(), 0])
+    }
+
+    /// One number alone, by its bits, and +0.0 all over else.
+    pub fn alone(place: u64, mark: u64) -> Recipe64 {
+        Recipe64::one(0.0).with(place, mark)
+    }
+
     pub fn fields(self, array: u64) -> [u64; 8] {
         let [base, mask] = self.kind;
         [self.word, base, mask, self.place, self.mark, array, 0, 0]

@@ -3,13 +3,12 @@
 
 use crate::aspeyruni::tau::reason::*;
 use crate::aspeyruni::tau::*;
-use crate::aspeyruni::MAX_PAIRS;
 use crate::inputs::word_of;
 use crate::kinds::*;
 use crate::recipe::{sounds_of, Recipe, Sounds};
 use crate::taken::Inverse::{self, *};
 use crate::tau_lines::*;
-use crate::{after, ones, List};
+use crate::{ones, List};
 
 pub fn all(list: &mut List) {
     louder(list);
@@ -46,38 +45,18 @@ impl List {
         assert_eq!(self.overs > 0, wanted.last() == Some(&true));
     }
 
-    /// So many blocks of pairs, in calls as long as they may be.
-    fn long(&mut self, mut sounds: Sounds, blocks: usize) {
-        let mut left = blocks * BLOCK;
-        while left > 0 {
-            let count = left.min(MAX_PAIRS);
-            self.pairs(sounds, count);
-            sounds = after(sounds, count);
-            left -= count;
-        }
-    }
-
     fn block_of(&mut self, word: u64, near: Kind, far: Kind) {
         self.pairs(sounds_of(word_of(word), near, far, 0.0), BLOCK);
     }
 
     /// One number all over.
     fn fill(&mut self, array: u64, x: f64) {
-        self.make_by(array, Recipe64::noise(0, [x.to_bits(), 0]));
+        self.make_by(array, Recipe64::one(x));
     }
 
     /// One number alone, and +0.0 all over else.
     fn alone(&mut self, array: u64, place: u64, x: f64) {
-        let silence = Recipe64::noise(0, [0, 0]);
-        let mark = x.to_bits();
-        self.make_by(
-            array,
-            Recipe64 {
-                place,
-                mark,
-                ..silence
-            },
-        );
+        self.make_by(array, Recipe64::alone(place, x.to_bits()));
     }
 }
 
@@ -233,16 +212,7 @@ fn by_weights(list: &mut List) {
         list.over_in(inverses);
     }
     list.established(1, true);
-    let silence = Recipe64::noise(0, [0, 0]);
-    let mark = 1f32.to_bits().into();
-    list.make_by(
-        WINDOW,
-        Recipe64 {
-            place: 384,
-            mark,
-            ..silence
-        },
-    );
+    list.make_by(WINDOW, Recipe64::alone(384, 1f32.to_bits().into()));
     list.fill(SHADOW, 1.25 * 2f64.powi(128));
     list.block_of(1, LOW, SILENCE);
     list.over_in_dropped(Shadow);

@@ -3,12 +3,11 @@
 
 use crate::aspeyruni::tau::reason::*;
 use crate::aspeyruni::tau::*;
-use crate::aspeyruni::MAX_PAIRS;
 use crate::inputs::word_of;
 use crate::kinds::*;
 use crate::recipe::{sounds_of, Recipe, Sounds};
 use crate::tau_lines::*;
-use crate::{after, learnt, ones, List};
+use crate::{learnt, ones, List};
 
 pub fn all(list: &mut List) {
     first_move(list);
@@ -28,16 +27,9 @@ impl List {
         assert_eq!(self.reason, reason);
     }
 
-    /// So many blocks of pairs, in calls as long as they may be.
+    /// So many blocks of pairs.
     fn hear(&mut self, word: u64, near: Kind, far: Kind, gain: f32, blocks: usize) {
-        let mut sounds = sounds_of(word_of(word), near, far, gain);
-        let mut left = blocks * BLOCK;
-        while left > 0 {
-            let count = left.min(MAX_PAIRS);
-            self.pairs(sounds, count);
-            sounds = after(sounds, count);
-            left -= count;
-        }
+        self.long(sounds_of(word_of(word), near, far, gain), blocks);
     }
 
     /// Created, as after an echo that was learnt, but for a change.
