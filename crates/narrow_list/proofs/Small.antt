@@ -11,11 +11,9 @@ use native.Mathlib.Omega.{arith}
 use lib.Dec.{T, lt→ltb, ltb→lt}
 use lib.IntN.{pos}
 use lib.Ieee.{Float, nan, inf, fin, binary64, up, down, add, mul, lt, le, fits}
-use lib.Ieee.Bits.{is-true}
-use lib.Ieee.Fits.{and-l, and-r}
 use lib.Ieee.Positive.{num, den, den-pos, positive, own-value, first-pos, le→cross}
 use lib.ListN.{length, getD}
-use Rattle.laws.specs.Choice.{lt-or-ge}
+use Rattle.laws.specs.Choice.{both, lt-or-ge}
 use Rattle.numbers.specs.Finite.{plus}
 use Rattle.numbers.specs.Narrowing.{highSquare}
 use Rattle.numbers.specs.Ranges.{one}
@@ -26,10 +24,6 @@ use Rattle.narrow_list.specs.Overs.{overCount, scaledBy}
 use Rattle.narrow_list.specs.Short.{squareOf}
 use Rattle.narrow_list.proofs.Fits.{each-below}
 use Rattle.narrow_list.proofs.OverCounts.{overs-none, table-map}
-
--- two tests in one
-pub both : (a b : Bool) → (a && b) ≡ true → (a ≡ true) × (b ≡ true)
-both a b h = let t = subst T (sym h) tt in (is-true a (and-l a b t), is-true b (and-r a b t))
 
 abbrev pub Small : List Float → ℕ → Type 0
 Small xs n = (k : ℕ) → k < n → lt (squareOf (getD xs k nan)) highSquare ≡ true

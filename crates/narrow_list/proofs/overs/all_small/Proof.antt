@@ -8,7 +8,8 @@ use borrow.Author.Tests.{eqb-true}
 use lib.Dec.{eqb}
 use lib.Ieee.{nan, ofBits}
 use lib.ListN.{length, getD}
-use Rattle.narrow_list.proofs.Small.{Small, both, small-more}
+use Rattle.laws.specs.Choice.{both}
+use Rattle.narrow_list.proofs.Small.{Small, small-more}
 use Rattle.narrow_list.proofs.overs.all_small.Statement.{statement}
 use Rattle.narrow_list.proofs.overs.all_small.Tie as tie
 

@@ -1,7 +1,8 @@
 -- `narrow_list::overs::overs_scaled` meets its contract. Assumes nothing.
 use borrow.Author.Needs.{needs}
 use lib.Ieee.{ofBits}
-use Rattle.narrow_list.proofs.Small.{both, shrunk-none}
+use Rattle.laws.specs.Choice.{both}
+use Rattle.narrow_list.proofs.Small.{shrunk-none}
 use Rattle.narrow_list.proofs.overs.overs_scaled.Statement.{statement}
 use Rattle.narrow_list.proofs.overs.overs_scaled.Tie as tie
 
