@@ -12,11 +12,15 @@ use Rattle.narrow_list.proofs.OverCounts.{overs-few as few}
 use Rattle.complex_fft.specs.ComplexFft.{runOf}
 use Rattle.complex_fft.proofs.Sizes.{run-long}
 use Rattle.fft.specs.RealFft.{halvesOf, binsOf, spectrumWith, samplesWith, oversWith}
-use Rattle.fft.specs.Calls.{oversOf}
+use Rattle.fft.specs.Calls.{spectrumOf, oversOf}
 
 pub length-spectrum : (t : List Float) (r : List ℕ) (x : List Float) → length (spectrumWith t r x) ≡ 514
 unfolding spectrumWith binsOf
 length-spectrum t r x = length-table2 257 _ _
+
+pub spectrum-514 : (x : List Float) → length (spectrumOf x) ≡ 514
+unfolding spectrumOf
+spectrum-514 x = length-spectrum _ _ x
 
 pub halves-long : (t x : List Float) → length (halvesOf t x) ≡ 512
 unfolding halvesOf
