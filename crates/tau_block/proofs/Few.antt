@@ -28,11 +28,11 @@ filter-few first ring near mic shadow output h = (
   subst (λ (n : ℕ). n ≤ 512) (sym (ap (λ (z : Filtered). z .output .overs) h)) (estimated-few _ _ _ _ _ _ _),
 )
 
-pub update-few : {u : UpdatedRest} {a b : List Float} (runs : Bool) (ring : Ring) (error : List Float) (scale : Float) (means : List Float) (paths : Paths) (resets : ℕ) (shadow : List Float)
-    → updatedOf u a b ≡ updated runs ring error scale means paths resets shadow → u .overs ≤ 512 * (ring .partitions)
-update-few runs ring error scale means paths resets shadow h =
+pub update-few : {u : UpdatedRest} {a b : List Float} (runs : Bool) (ring : Ring) (farPower error : List Float) (scale : Float) (means : List Float) (paths : Paths) (resets : ℕ) (shadow : List Float)
+    → updatedOf u a b ≡ updated runs ring farPower error scale means paths resets shadow → u .overs ≤ 512 * (ring .partitions)
+update-few runs ring farPower error scale means paths resets shadow h =
     subst (λ (n : ℕ). n ≤ 512 * (ring .partitions)) (sym (ap (λ (z : Updated). z .overs) h))
-    (updated-few runs ring error scale means paths resets shadow)
+    (updated-few runs ring farPower error scale means paths resets shadow)
 
 pub deliver-few : {g : DeliveredRest} {u : Suppressor} {a b : List Float} (runs protect : Bool) (near : List Float) (energy : Float) (valid : ℕ) (estimate : Estimated) (mic : Mic) (paths : Paths) (resets : ℕ) (output : List Float)
     → deliveredOf g u a b ≡ delivered runs protect near energy valid estimate mic paths resets output → g .overs ≤ 512

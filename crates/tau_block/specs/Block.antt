@@ -16,7 +16,7 @@ use Rattle.tau_paths.specs.declared.paths.Conditions.{Conditions}
 use Rattle.tau_guard.specs.Guard.{guarded}
 use Rattle.tau_guard.specs.Powers.{hosted}
 use Rattle.tau_spectra.specs.Ring.{Ring, ringOf}
-use Rattle.tau_spectra.specs.Far.{hearFar}
+use Rattle.tau_spectra.specs.Far.{Heard, hearFar}
 use Rattle.tau_filter.specs.Filter.{shadowed, estimated}
 use Rattle.tau_update.specs.Update.{updated}
 use Rattle.tau_suppressor.specs.Suppressor.{suppressed}
@@ -27,10 +27,11 @@ pub record Block : Type 0 where
   pub valid : ℕ
   pub adapt : Bool
 
--- what was heard from the loudspeaker: the ring of spectra, step 1's `far_active`, of all blocks so far, and step 4's far activity, of this
--- one
+-- what was heard from the loudspeaker: the ring of spectra and the far power of each bin, step 1's `far_active`, of all blocks so far, and
+-- step 4's far activity, of this one
 pub record Playing : Type 0 where
   pub ring : Ring
+  pub farPower : List Float
   pub sounded : Bool
   pub active : Bool
 
@@ -75,7 +76,7 @@ listen flagged playing b microphone =
     -- 6. "Update of the shadow, unless flushing, diverged in 2 or 3, or rescued."
     let updates = b .adapt && not (output .diverged) && not (shadow .diverged) && not (comparison .rescued) in
     let update =
-    updated updates (playing .ring) (shadow .error) (detector .«step_scale») (mic .«far_power_mean») (comparison .paths) (output .resets) (comparison .shadow) in
+    updated updates (playing .ring) (playing .farPower) (shadow .error) (detector .«step_scale») (mic .«far_power_mean») (comparison .paths) (output .resets) (comparison .shadow) in
     -- 7. "Slide the error window always. Suppressor only if flagged, `far_active` and not diverged in 3."
     let suppresses = flagged && playing .sounded && not (output .diverged) in
     let suppression = suppressed suppresses (detector .«protect_output») (output .error) (output .spectrum) (output .suppressor) in
@@ -108,12 +109,13 @@ listen flagged playing b microphone =
       };
     }
 
--- the engine whole: its state and the three lent buffers, the shadow's weights, the output's and the far spectra
+-- the engine whole: its state and the four lent buffers, the shadow's weights, the output's, the far spectra and their powers
 pub record Engine : Type 0 where
   pub state : TauCanceller
   pub shadow : List Float
   pub output : List Float
   pub spectra : List Float
+  pub powers : List Float
 
 -- what a block leaves
 pub record Ran : Type 0 where
@@ -121,19 +123,20 @@ pub record Ran : Type 0 where
   pub block : List Float
   pub told : Told
 
--- The block, with the 256 far samples that go with it. The carry is not read, and stays.
-unfoldable pub runBlock : Engine → List Float → Block → Ran
-runBlock e far b =
+-- what is played to a microphone, of what was heard
+abbrev pub playedBy : ℕ → Heard → Playing
+playedBy partitions heard = record {
+  ring = ringOf partitions (heard .far .head) (heard .spectra);
+  farPower = heard .farPower;
+  sounded = heard .far .«far_active»;
+  active = heard .active;
+}
+
+-- the block on what was heard. The carry is not read, and stays.
+abbrev pub ranOn : Engine → Heard → Block → Ran
+ranOn e heard b =
     let s = e .state in
-    -- 1. "Slide the far window; any far sample not equal to 0.0 sets `far_active`; advance the ring; store the spectrum."
-    -- 4. "Far activity: block energy above 1e-4 of the running peak, the peak updated first and above 0."
-    let heard = hearFar (s .partitions) (s .far) far (e .spectra) in
-    let playing : Playing = record {
-      ring = ringOf (s .partitions) (heard .far .head) (heard .spectra);
-      sounded = heard .far .«far_active»;
-      active = heard .active;
-    } in
-    let listened = listen (s .suppress) playing b (record { mic = s .mic; shadow = e .shadow; output = e .output }) in
+    let listened = listen (s .suppress) (playedBy (s .partitions) heard) b (record { mic = s .mic; shadow = e .shadow; output = e .output }) in
     record {
       engine = record {
         state = record {
@@ -148,7 +151,19 @@ runBlock e far b =
         shadow = listened .microphone .shadow;
         output = listened .microphone .output;
         spectra = heard .spectra;
+        powers = heard .powers;
       };
       block = listened .block;
       told = listened .told;
     }
+
+-- what a block hears of the 256 far samples that go with it
+abbrev pub heardIn : Engine → List Float → Heard
+heardIn e far = let s = e .state in hearFar (s .partitions) (s .far) far (e .spectra) (e .powers)
+
+-- The block:
+-- 1. "Slide the far window; any far sample not equal to 0.0 sets `far_active`; advance the ring; store the spectrum."
+-- 4. "Far activity: block energy above 1e-4 of the running peak, the peak updated first and above 0."
+-- and then the microphone's part on it.
+unfoldable pub runBlock : Engine → List Float → Block → Ran
+runBlock e far b = ranOn e (heardIn e far) b

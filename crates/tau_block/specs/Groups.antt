@@ -111,6 +111,6 @@ grouped flagged playing b microphone =
     let energy = energyOf near (b .valid) in
     let f = filtered (playing .ring) near mic (microphone .shadow) (microphone .output) in
     let j = compares (b .adapt) (playing .active) near energy (b .valid) f mic in
-    let u = updated (updates (b .adapt) f j) (playing .ring) (f .shadowError) (j .detector .«step_scale») (mic .«far_power_mean») (j .comparison .paths) (f .output .resets) (j .comparison .shadow) in
+    let u = updated (updates (b .adapt) f j) (playing .ring) (playing .farPower) (f .shadowError) (j .detector .«step_scale») (mic .«far_power_mean») (j .comparison .paths) (f .output .resets) (j .comparison .shadow) in
     let g = delivered (suppresses flagged (playing .sounded) f) (j .detector .«protect_output») near energy (b .valid) (f .output) mic (u .paths) (u .resets) (j .comparison .output) in
     gathered f j u g

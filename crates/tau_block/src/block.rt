@@ -238,6 +238,7 @@ pub fn run_mic(
     sounded: bool,
     active: bool,
     spectra: &[f64],
+    far_power: &[f64; 257],
     near: &[f32; 256],
     valid: usize,
     adapt: bool,
@@ -253,7 +254,7 @@ pub fn run_mic(
 ) -> ListenedRest
     requires { ⌜ now table ≡ recombination ⌝ }
     requires { ⌜ (length (now shadow) ≡ 514 * parts) × (length (now output) ≡ 514 * parts) × (length (now spectra) ≡ 514 * parts) × (head < parts) × (parts ≤ 32) × (valid ≤ 256) ⌝ }
-    ensures { λ r. ⌜ listenedOf r (now (means .exit)) (suppressorOf (now («echo_power» .exit)) (now («error_power» .exit)) (now (gain .exit)) (now (window .exit))) (now (block .exit)) (now (shadow .exit)) (now (output .exit)) ≡ listen flag (playingOf parts head sounded active (now (spectra .entry))) (micBlock (now (near .entry)) valid adapt) (microphoneOf mic (now (means .entry)) (suppressorOf (now («echo_power» .entry)) (now («error_power» .entry)) (now (gain .entry)) (now (window .entry))) (now (shadow .entry)) (now (output .entry))) ⌝ }
+    ensures { λ r. ⌜ listenedOf r (now (means .exit)) (suppressorOf (now («echo_power» .exit)) (now («error_power» .exit)) (now (gain .exit)) (now (window .exit))) (now (block .exit)) (now (shadow .exit)) (now (output .exit)) ≡ listen flag (playingOf parts head sounded active (now (spectra .entry)) (now («far_power» .entry))) (micBlock (now (near .entry)) valid adapt) (microphoneOf mic (now (means .entry)) (suppressorOf (now («echo_power» .entry)) (now («error_power» .entry)) (now (gain .entry)) (now (window .entry))) (now (shadow .entry)) (now (output .entry))) ⌝ }
 {
     let mut bins = [0.0f64; 514];
     let mut estimate = [0.0f32; 256];
@@ -307,6 +308,7 @@ pub fn run_mic(
         parts,
         head,
         spectra,
+        far_power,
         &shadow_error,
         step_scale,
         means,

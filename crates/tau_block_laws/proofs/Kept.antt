@@ -17,7 +17,7 @@ use Rattle.laws.specs.Loops.{length-over}
 use Rattle.laws.specs.Parts.{part, length-part, length-with}
 use Rattle.laws.specs.Tables.{length-table}
 use Rattle.fft.specs.Calls.{spectrumOf, samplesOf}
-use Rattle.fft.proofs.Sizes.{length-spectrum, length-samples}
+use Rattle.fft.proofs.Sizes.{spectrum-514, length-samples}
 use Rattle.tau_state.specs.Constants.{zero32}
 use Rattle.tau_state.specs.Ranges.{Ranged}
 use Rattle.tau_state.specs.declared.state.Far.{Far}
@@ -49,15 +49,11 @@ heard-head : (parts : ℕ) (f : Far) (x xs : List Float) → f .head < parts →
 unfolding hearFar
 heard-head parts f x xs h = next-slot parts (f .head) h
 
-spectrum-length : (x : List Float) → length (spectrumOf x) ≡ 514
-unfolding spectrumOf
-spectrum-length x = length-spectrum _ _ x
-
 heard-length : (parts : ℕ) (f : Far) (x xs : List Float) → f .head < parts → length xs ≡ 514 * parts → length (hearFar parts f x xs .spectra) ≡ 514 * parts
 unfolding hearFar
 heard-length parts f x xs h e =
     let l = next-slot parts (f .head) h in
-    length-with 514 (nextSlot parts (f .head)) xs (spectrumOf (slid (f .window) x)) (omega arith) (spectrum-length (slid (f .window) x)) ∙ e
+    length-with 514 (nextSlot parts (f .head)) xs (spectrumOf (slid (f .window) x)) (omega arith) (spectrum-514 (slid (f .window) x)) ∙ e
 
 -- ---- the rescue streak, below 8 through every step
 

@@ -9,11 +9,11 @@ use Rattle.tau_state.specs.declared.state.Mic.{Mic}
 use Rattle.tau_state.specs.declared.report.Told.{Told}
 use Rattle.tau_block.specs.Block.{Engine, Ran}
 
--- partitions, whether it suppresses, the loudspeaker's part and the microphone's; then shadow, output and spectra; and no carry, which a
--- block does not read
-abbrev pub uncarried : ℕ → Bool → Far → Mic → List Float → List Float → List Float → Engine
-uncarried partitions flag far mic shadow output spectra =
-    record { state = stateOf partitions flag 0 [] [] far mic; shadow = shadow; output = output; spectra = spectra }
+-- partitions, whether it suppresses, the loudspeaker's part and the microphone's; then shadow, output, spectra and powers; and no carry,
+-- which a block does not read
+abbrev pub uncarried : ℕ → Bool → Far → Mic → List Float → List Float → List Float → List Float → Engine
+uncarried partitions flag far mic shadow output spectra powers =
+    record { state = stateOf partitions flag 0 [] [] far mic; shadow = shadow; output = output; spectra = spectra; powers = powers }
 
 abbrev pub ranOf : Engine → List Float → Told → Ran
 ranOf engine block told = record { engine = engine; block = block; told = told }

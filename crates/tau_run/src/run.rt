@@ -47,13 +47,15 @@ pub fn run_lent(
     shadow: &mut [f64],
     output: &mut [f64],
     spectra: &mut [f64],
+    powers: &mut [f64],
 ) -> BlockedRest
-    requires { ⌜ (length (now shadow) ≡ 514 * partitions) × (length (now output) ≡ 514 * partitions) × (length (now spectra) ≡ 514 * partitions) ⌝ }
+    requires { ⌜ (length (now shadow) ≡ 514 * partitions) × (length (now output) ≡ 514 * partitions) × (length (now spectra) ≡ 514 * partitions) × (length (now powers) ≡ 257 * partitions) ⌝ }
     requires { ⌜ (rest .head < partitions) × (partitions ≤ 32) × (valid ≤ 256) × (1 ≤ valid) ⌝ }
-    ensures { λ r. ⌜ ranOf (uncarried partitions flag (farOf (r .far) (now («far_window» .exit))) (micOf (r .mic) (now (means .exit)) (suppressorOf (now («echo_power» .exit)) (now («error_power» .exit)) (now (gain .exit)) (now (window .exit)))) (now (shadow .exit)) (now (output .exit)) (now (spectra .exit))) (now (block .exit)) (r .told) ≡ runBlock (uncarried partitions flag (farOf rest (now («far_window» .entry))) (micOf mic (now (means .entry)) (suppressorOf (now («echo_power» .entry)) (now («error_power» .entry)) (now (gain .entry)) (now (window .entry)))) (now (shadow .entry)) (now (output .entry)) (now (spectra .entry))) (now (far .entry)) (micBlock (now (near .entry)) valid adapt) ⌝ }
+    ensures { λ r. ⌜ ranOf (uncarried partitions flag (farOf (r .far) (now («far_window» .exit))) (micOf (r .mic) (now (means .exit)) (suppressorOf (now («echo_power» .exit)) (now («error_power» .exit)) (now (gain .exit)) (now (window .exit)))) (now (shadow .exit)) (now (output .exit)) (now (spectra .exit)) (now (powers .exit))) (now (block .exit)) (r .told) ≡ runBlock (uncarried partitions flag (farOf rest (now («far_window» .entry))) (micOf mic (now (means .entry)) (suppressorOf (now («echo_power» .entry)) (now («error_power» .entry)) (now (gain .entry)) (now (window .entry)))) (now (shadow .entry)) (now (output .entry)) (now (spectra .entry)) (now (powers .entry))) (now (far .entry)) (micBlock (now (near .entry)) valid adapt) ⌝ }
 {
     let table = trig::recombination();
     let mut scratch = [0.0f64; 1024];
+    let mut far_power = [0.0f64; 257];
     let heard = hear(
         &table,
         &mut scratch,
@@ -62,6 +64,8 @@ pub fn run_lent(
         far_window,
         far,
         spectra,
+        powers,
+        &mut far_power,
     );
     let far_left = heard.far;
     let active = heard.far_is_active;
@@ -75,6 +79,7 @@ pub fn run_lent(
         sounded,
         active,
         spectra,
+        &far_power,
         near,
         valid,
         adapt,
@@ -106,10 +111,11 @@ pub fn run_block(
     shadow: &mut [f64],
     output: &mut [f64],
     spectra: &mut [f64],
+    powers: &mut [f64],
 ) -> Blocked
-    requires { ⌜ (length (now shadow) ≡ 514 * s .partitions) × (length (now output) ≡ 514 * s .partitions) × (length (now spectra) ≡ 514 * s .partitions) ⌝ }
+    requires { ⌜ (length (now shadow) ≡ 514 * s .partitions) × (length (now output) ≡ 514 * s .partitions) × (length (now spectra) ≡ 514 * s .partitions) × (length (now powers) ≡ 257 * s .partitions) ⌝ }
     requires { ⌜ (s .far .head < s .partitions) × (s .partitions ≤ 32) × (valid ≤ 256) × (1 ≤ valid) ⌝ }
-    ensures { λ r. ⌜ ranOf (record { state = r .state; shadow = now (shadow .exit); output = now (output .exit); spectra = now (spectra .exit) }) (r .block) (r .told) ≡ runBlock (record { state = s; shadow = now (shadow .entry); output = now (output .entry); spectra = now (spectra .entry) }) far (micBlock near valid adapt) ⌝ }
+    ensures { λ r. ⌜ ranOf (record { state = r .state; shadow = now (shadow .exit); output = now (output .exit); spectra = now (spectra .exit); powers = now (powers .exit) }) (r .block) (r .told) ≡ runBlock (record { state = s; shadow = now (shadow .entry); output = now (output .entry); spectra = now (spectra .entry); powers = now (powers .entry) }) far (micBlock near valid adapt) ⌝ }
 {
     let mut far_window = s.far.window;
     let mut means = s.mic.far_power_mean;
@@ -138,6 +144,7 @@ pub fn run_block(
         shadow,
         output,
         spectra,
+        powers,
     );
     let heard = ran.far;
     let mic = ran.mic;

@@ -13,6 +13,7 @@ use Rattle.tau_state.specs.Sums.{energyOf}
 use Rattle.tau_state.specs.declared.state.Far.{Far}
 use Rattle.tau_spectra.specs.Windows.{slid}
 use Rattle.tau_spectra.specs.Ring.{nextSlot}
+use Rattle.tau_spectra.specs.Powers.{powersOf, keptPowerTo}
 
 -- "any far sample not equal to 0.0", of the first n
 unfoldable pub sounds : List Float → ℕ → Bool
@@ -26,22 +27,29 @@ energyPeak peak energy = pick (lt peak energy) energy peak
 abbrev pub drives : Float → Float → Bool
 drives peak energy = lt zero64 peak && lt (mul binary64 f1em4 peak) energy
 
--- what a block leaves of the loudspeaker's part, whether it drove the block, and the spectra
+-- what a block leaves of the loudspeaker's part, whether it drove the block, the spectra, their powers, and the far power of each bin
 pub record Heard : Type 0 where
   pub far : Far
   pub active : Bool
   pub spectra : List Float
+  pub powers : List Float
+  pub farPower : List Float
 
 -- Both steps. `far_active` is of all blocks since creation or reset; `active` of this one.
-unfoldable pub hearFar : ℕ → Far → List Float → List Float → Heard
-hearFar partitions far block spectra =
+unfoldable pub hearFar : ℕ → Far → List Float → List Float → List Float → Heard
+hearFar partitions far block spectra powers =
     let window = slid (far .window) block in
     let head = nextSlot partitions (far .head) in
     let energy = energyOf block 256 in
     let peak = energyPeak (far .«far_energy_peak») energy in
+    let spectrum = spectrumOf window in
+    -- K10: the powers are "written when its spectrum is written"
+    let kept = withPart 257 head powers (powersOf spectrum) in
     record {
       far = record { window = window; head = head; «far_active» = far .«far_active» || sounds block 256; «far_energy_peak» = peak };
       active = drives peak energy;
       -- "store the spectrum", in the ring's slot
-      spectra = withPart 514 head spectra (spectrumOf window);
+      spectra = withPart 514 head spectra spectrum;
+      powers = kept;
+      farPower = keptPowerTo kept partitions;
     }

@@ -1,4 +1,6 @@
 // Steps 1 and 4: what is heard from the loudspeaker.
+use crate::powers::far_power_of;
+use crate::powers::keep;
 use crate::ring::next_slot;
 use crate::transform::slide;
 use crate::transform::spectrum;
@@ -74,15 +76,19 @@ pub fn hear(
     window: &mut [f32; 512],
     block: &[f32; 256],
     spectra: &mut [f64],
+    powers: &mut [f64],
+    far_power: &mut [f64; 257],
 ) -> HeardRest
     requires { ⌜ now table ≡ recombination ⌝ }
-    requires { ⌜ (length (now spectra) ≡ 514 * partitions) × (f .head < partitions) × (partitions ≤ 32) ⌝ }
-    ensures { λ r. ⌜ record { far = farOf (r .far) (now (window .exit)); active = r .«far_is_active»; spectra = now (spectra .exit) } ≡ hearFar partitions (farOf f (now (window .entry))) (now (block .entry)) (now (spectra .entry)) ⌝ }
+    requires { ⌜ (length (now spectra) ≡ 514 * partitions) × (length (now powers) ≡ 257 * partitions) × (f .head < partitions) × (partitions ≤ 32) ⌝ }
+    ensures { λ r. ⌜ record { far = farOf (r .far) (now (window .exit)); active = r .«far_is_active»; spectra = now (spectra .exit); powers = now (powers .exit); farPower = now («far_power» .exit) } ≡ hearFar partitions (farOf f (now (window .entry))) (now (block .entry)) (now (spectra .entry)) (now (powers .entry)) ⌝ }
     ensures { λ r. ⌜ r .far .head < partitions ⌝ }
 {
     slide(window, block);
     let head = next_slot(partitions, f.head);
     store(table, scratch, spectra, head, partitions, window);
+    keep(spectra, powers, head, partitions);
+    far_power_of(powers, partitions, far_power);
     let e = energy(block, 256);
     let top = peak(f.far_energy_peak, e);
     let on = sounding(block);

@@ -9,16 +9,16 @@ use lib.Ieee.{Float}
 use Rattle.laws.specs.Choice.{pick-if}
 use Rattle.laws.specs.Loops.{iter}
 use Rattle.laws.specs.Parts.{part, withPart}
-use Rattle.fft.specs.Calls.{spectrumOf, oversOf}
-use Rattle.fft.proofs.Sizes.{length-spectrum, overs-512}
+use Rattle.fft.specs.Calls.{oversOf}
+use Rattle.fft.proofs.Sizes.{spectrum-514, overs-512}
 use Rattle.tau_state.specs.declared.state.Paths.{Paths}
 use Rattle.tau_spectra.specs.Ring.{Ring, slotOf, ringOf, metBy}
 use Rattle.tau_update.specs.Update.{Learnt, gradientOf, constrained, stepped, finiteTo, learntAt, learntTo, Updated, updated}
 
 -- a constrained gradient is a spectrum
 pub length-constrained : (g : List Float) → length (constrained g) ≡ 514
-unfolding constrained spectrumOf
-length-constrained g = length-spectrum _ _ _
+unfolding constrained
+length-constrained g = spectrum-514 _
 
 -- one partition of the update
 pub learnt-turn : (parts head : ℕ) (xs e rates w : List Float) (good : Bool) (overs p : ℕ)
@@ -43,9 +43,9 @@ learnt-few ring error rates shadow zero = omega arith
 learnt-few ring error rates shadow (suc n) =
     omega (arith, learnt-few ring error rates shadow n, overs-512 (gradientOf (metBy ring n) error rates))
 
-pub updated-few : (runs : Bool) (ring : Ring) (error : List Float) (scale : Float) (means : List Float) (paths : Paths) (resets : ℕ) (shadow : List Float)
-    → updated runs ring error scale means paths resets shadow .overs ≤ 512 * (ring .partitions)
+pub updated-few : (runs : Bool) (ring : Ring) (farPower error : List Float) (scale : Float) (means : List Float) (paths : Paths) (resets : ℕ) (shadow : List Float)
+    → updated runs ring farPower error scale means paths resets shadow .overs ≤ 512 * (ring .partitions)
 unfolding updated
-updated-few runs ring error scale means paths resets shadow =
+updated-few runs ring farPower error scale means paths resets shadow =
     pick-if (λ (z : Updated). z .overs ≤ 512 * (ring .partitions)) _
     (λ _. pick-if (λ (z : Updated). z .overs ≤ 512 * (ring .partitions)) _ (λ _. learnt-few ring _ _ _ _) (λ _. learnt-few ring _ _ _ _)) (λ _. omega arith)

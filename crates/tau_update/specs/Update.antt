@@ -16,16 +16,11 @@ use Rattle.fft.specs.Calls.{spectrumOf, samplesOf, oversOf}
 use Rattle.tau_state.specs.Constants.{zero32, zero64, one, f0·001, f0·02, f0·98, smoothBy}
 use Rattle.tau_state.specs.declared.state.Paths.{Paths}
 use Rattle.tau_clears.specs.Clears.{divergeShadow}
-use Rattle.tau_spectra.specs.Bins.{powerAt}
 use Rattle.tau_spectra.specs.Ring.{Ring, metBy}
 
 -- the shadow's error after as many zeros, which puts the correlation's lags where the gradient needs them
 abbrev pub framed : List Float → List Float
 framed error = replicate 256 zero32 ++ error
-
--- the far power of each bin: the first n slots added, "by slot" and not by age, from +0.0
-unfoldable pub farPowerTo : List Float → ℕ → List Float
-farPowerTo spectra n = iter (λ slot sum. over 257 (λ k a. add binary64 a (powerAt (part 514 slot spectra) k)) sum) (replicate 257 zero64) n
 
 -- the step factor of a bin, "0.02 to 1": the square of its power's share of its mean; 1 where the mean is not above 0
 unfoldable pub factorOf : Float → Float → Float
@@ -91,15 +86,14 @@ pub record Updated : Type 0 where
   pub shadow : List Float
   pub overs : ℕ
 
--- 6. "Update of the shadow, unless .."; runs says whether it does. In the Rust's order: the spectrum of the shadow's error, the far
--- power of each bin, each bin's rate by the means as they were, the new means, the weights partition by partition, and the verdict when
--- all are written: where one is not finite the shadow is cleared (`diverge_shadow`).
-unfoldable pub updated : Bool → Ring → List Float → Float → List Float → Paths → ℕ → List Float → Updated
-updated runs ring error scale means paths resets shadow =
+-- 6. "Update of the shadow, unless .."; runs says whether it does. In the Rust's order: the spectrum of the shadow's error, each bin's
+-- rate by its far power and the means as they were, the new means, the weights partition by partition, and the verdict when all are
+-- written: where one is not finite the shadow is cleared (`diverge_shadow`).
+unfoldable pub updated : Bool → Ring → List Float → List Float → Float → List Float → Paths → ℕ → List Float → Updated
+updated runs ring farPower error scale means paths resets shadow =
     let spectrum = spectrumOf (framed error) in
-    let powers = farPowerTo (ring .spectra) (ring .partitions) in
-    let rates = ratesOf scale means powers in
-    let newMeans = meansOf powers means in
+    let rates = ratesOf scale means farPower in
+    let newMeans = meansOf farPower means in
     let learnt = learntTo ring spectrum rates shadow (ring .partitions) in
     let clear = divergeShadow paths resets (learnt .weights) in
     pick runs
@@ -109,6 +103,6 @@ updated runs ring error scale means paths resets shadow =
     (record { means = means; paths = paths; resets = resets; shadow = shadow; overs = 0 })
 
 -- what the partitions learn in it, for theorems that speak of the verdict
-abbrev pub learntBy : Ring → List Float → Float → List Float → List Float → Learnt
-learntBy ring error scale means shadow =
-    learntTo ring (spectrumOf (framed error)) (ratesOf scale means (farPowerTo (ring .spectra) (ring .partitions))) shadow (ring .partitions)
+abbrev pub learntBy : Ring → List Float → List Float → Float → List Float → List Float → Learnt
+learntBy ring farPower error scale means shadow =
+    learntTo ring (spectrumOf (framed error)) (ratesOf scale means farPower) shadow (ring .partitions)

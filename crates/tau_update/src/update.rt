@@ -2,7 +2,6 @@
 use complex::Complex;
 use tau_clears::clears::diverge_shadow;
 use tau_spectra::bins::get;
-use tau_spectra::bins::power;
 use tau_spectra::bins::put;
 use tau_spectra::ring::slot_of;
 use tau_spectra::transform::first_half;
@@ -13,15 +12,12 @@ use tau_state::sums::smooth;
 ghost use mathlib.Core.Path.{_≡_};
 ghost use Prim.Native.Nat.{_≤_, _<_, _*_};
 ghost use lib.ListN.{length, drop, replicate};
-ghost use lib.Ieee.{binary64, add};
-ghost use Rattle.laws.specs.Loops.{over};
 ghost use Rattle.trig.specs.Tables.{recombination};
 ghost use Rattle.fft.specs.Calls.{spectrumOf, oversOf};
 ghost use Rattle.tau_state.specs.Constants.{zero32};
 ghost use Rattle.tau_spectra.specs.Ring.{ringOf};
 ghost use Rattle.tau_update.specs.Lent.{updatedOf, verdictOn};
-ghost use Rattle.tau_spectra.specs.Bins.{powerAt};
-ghost use Rattle.tau_update.specs.Update.{farPowerTo, factorOf, rateOf, ratesOf, meansOf, gradientOf, constrained, stepped, finiteTo, framed, learntTo, updated};
+ghost use Rattle.tau_update.specs.Update.{factorOf, rateOf, ratesOf, meansOf, gradientOf, constrained, stepped, finiteTo, framed, learntTo, updated};
 
 const STEP_SIZE: f64 = 1.0;
 
@@ -30,33 +26,6 @@ const STEP_POWER_SMOOTHING: f64 = 0.98;
 const MIN_STEP_FRACTION: f64 = 0.02;
 
 const REGULARIZATION: f64 = 1e-3;
-
-// One slot's powers, bin by bin onto the sum.
-fn add_powers(acc: &mut [f64; 257], x: &[f64])
-    requires { ⌜ length (now x) ≡ 514 ⌝ }
-    ensures { λ _. ⌜ now (acc .exit) ≡ over 257 (λ k a. add binary64 a (powerAt (now (x .entry)) k)) (now (acc .entry)) ⌝ }
-{
-    let mut k = 0usize;
-    while k < 257 {
-        acc[k] = acc[k] + power(x, k);
-        k += 1;
-    }
-}
-
-// By slot and not by age: the source's order, and another one would round otherwise.
-fn far_power(xs: &[f64], parts: usize, acc: &mut [f64; 257])
-    requires { ⌜ (length (now xs) ≡ 514 * parts) × (parts ≤ 32) ⌝ }
-    ensures { λ _. ⌜ now (acc .exit) ≡ farPowerTo (now (xs .entry)) parts ⌝ }
-{
-    *acc = [0.0f64; 257];
-    let mut p = 0usize;
-    while p < parts {
-        let a = 514 * p;
-        let e = a + 514;
-        add_powers(acc, &xs[a..e]);
-        p += 1;
-    }
-}
 
 // A bin below its usual power is stepped down by the square of its share.
 fn factor(mean: f64, power: f64) -> f64
@@ -218,18 +187,6 @@ fn error_spectrum(
     spectrum(table, scratch, &framed, bins);
 }
 
-// Each bin's step, by the means as they were, and then the means with this block's powers.
-fn next_steps(xs: &[f64], parts: usize, scale: f64, means: &mut [f64; 257], steps: &mut [f64; 257])
-    requires { ⌜ (length (now xs) ≡ 514 * parts) × (parts ≤ 32) ⌝ }
-    ensures { λ _. ⌜ now (steps .exit) ≡ ratesOf scale (now (means .entry)) (farPowerTo (now (xs .entry)) parts) ⌝ }
-    ensures { λ _. ⌜ now (means .exit) ≡ meansOf (farPowerTo (now (xs .entry)) parts) (now (means .entry)) ⌝ }
-{
-    let mut powers = [0.0f64; 257];
-    far_power(xs, parts, &mut powers);
-    rates(scale, means, &powers, steps);
-    new_means(&powers, means);
-}
-
 pub fn adapt_shadow(
     table: &[f64; 514],
     scratch: &mut [f64; 1024],
@@ -237,6 +194,7 @@ pub fn adapt_shadow(
     parts: usize,
     head: usize,
     xs: &[f64],
+    far_power: &[f64; 257],
     error: &[f32; 256],
     scale: f64,
     means: &mut [f64; 257],
@@ -246,13 +204,15 @@ pub fn adapt_shadow(
 ) -> UpdatedRest
     requires { ⌜ now table ≡ recombination ⌝ }
     requires { ⌜ (length (now shadow) ≡ 514 * parts) × (length (now xs) ≡ 514 * parts) × (head < parts) × (parts ≤ 32) ⌝ }
-    ensures { λ r. ⌜ updatedOf r (now (means .exit)) (now (shadow .exit)) ≡ updated on (ringOf parts head (now (xs .entry))) (now (error .entry)) scale (now (means .entry)) p resets (now (shadow .entry)) ⌝ }
+    ensures { λ r. ⌜ updatedOf r (now (means .exit)) (now (shadow .exit)) ≡ updated on (ringOf parts head (now (xs .entry))) (now («far_power» .entry)) (now (error .entry)) scale (now (means .entry)) p resets (now (shadow .entry)) ⌝ }
 {
     if on {
         let mut e = [0.0f64; 514];
         let mut steps = [0.0f64; 257];
         error_spectrum(table, scratch, error, &mut e);
-        next_steps(xs, parts, scale, means, &mut steps);
+        // by the means as they were, and then the means with this block's powers
+        rates(scale, means, far_power, &mut steps);
+        new_means(far_power, means);
         let learned = learn(table, scratch, parts, head, xs, &e, &steps, shadow);
         return judge(learned, means, p, resets, shadow);
     }

@@ -11,13 +11,17 @@ adapt-shadow-spec =
     tie.close
     (tie.spec
     (λ c κs. search needs)
+    (λ c. search needs)
+    (λ c κs. search needs)
     (λ c κs. search needs)
     (λ c κs. search needs)
     (λ c κs. search needs)
     (λ c. search needs)
     (λ c. let at-learn = c .before .before .before .before .before .before .before in
-    let at-next-steps = at-learn .before .before .before .before .before in
-    let at-error-spectrum = at-next-steps .before .before .before in
+    let at-new-means = at-learn .before .before .before .before .before in
+    let at-rates = at-new-means .before .before .before in
+    let at-error-spectrum = at-rates .before .before .before in
     let at-if1 = at-error-spectrum .before .before .before in
-    pick-yes _ _ _ (at-if1 .if1 .taken) (rw (← at-error-spectrum .error-spectrum .ensures, ← at-next-steps .next-steps .ensures .0, ← at-next-steps .next-steps .ensures .1, ← at-learn .learn .ensures, c .before .before .judge .ensures)))
+    pick-yes _ _ _ (at-if1 .if1 .taken)
+    (rw (← at-error-spectrum .error-spectrum .ensures, ← at-rates .rates .ensures, ← at-new-means .new-means .ensures, ← at-learn .learn .ensures, c .before .before .judge .ensures)))
     (λ c. pick-no _ _ _ (c .if1 .left) refl))

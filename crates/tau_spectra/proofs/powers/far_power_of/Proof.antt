@@ -1,21 +1,21 @@
-use Rattle.tau_update.specs.Update.{farPowerTo}
+use Rattle.tau_spectra.specs.Powers.{keptPowerTo}
 use mathlib.Core.Path.{_≡_, refl}
 use Prim.Native.Nat.{_-_, _*_, _≤_}
 use Rattle.laws.specs.Loops.{loops, iter-next}
 use Rattle.laws.specs.Parts.{part-is}
 use borrow.Author.Needs.{needs}
-use Rattle.tau_update.proofs.update.far_power.Statement.{statement}
-use Rattle.tau_update.proofs.update.far_power.Tie as tie
+use Rattle.tau_spectra.proofs.powers.far_power_of.Statement.{statement}
+use Rattle.tau_spectra.proofs.powers.far_power_of.Tie as tie
 
 abbrev Inv-loop : tie.InvT-loop
-Inv-loop xs parts acc₀ p₀ acc p = (p ≤ parts) × (acc ≡ farPowerTo xs p)
+Inv-loop powers partitions sum₀ slot₀ sum slot = (slot ≤ partitions) × (sum ≡ keptPowerTo powers slot)
 
 abbrev μ-loop : tie.MeasureT-loop
-μ-loop xs parts acc₀ p₀ acc p = parts - p
+μ-loop powers partitions sum₀ slot₀ sum slot = partitions - slot
 
-pub far-power-spec : {M : Type 1} → statement M
-unfolding farPowerTo
-far-power-spec =
+pub far-power-of-spec : {M : Type 1} → statement M
+unfolding keptPowerTo
+far-power-of-spec =
     tie.close
     (tie.spec Inv-loop μ-loop
     (λ c. search (needs, loops))
@@ -30,5 +30,5 @@ far-power-spec =
     (λ c. search needs)
     (λ c. let at-loop = c .before .before .before .before in
     let at-args = at-loop .before .before .before in
-    (search needs, let p = at-loop .loop .p in iter-next _ _ _ (at-loop .loop .inv .1) (rw (c .add-powers .ensures, part-is 514 (514 * p) p (at-args .args .xs .now) refl))))
+    (search needs, let slot = at-loop .loop .slot in iter-next _ _ _ (at-loop .loop .inv .1) (rw (c .add-slot .ensures, part-is 257 (257 * slot) slot (at-args .args .powers .now) refl))))
     (λ c. search (needs, loops)))
