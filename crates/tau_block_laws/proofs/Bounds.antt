@@ -28,7 +28,8 @@ use Rattle.complex.specs.Complexes.{getC}
 use Rattle.tau_state.specs.Constants.{zero64, one, f0·0003, f0·02, f0·1}
 use Rattle.tau_block_laws.specs.Bounds.{Factor, Target}
 use Rattle.tau_spectra.specs.Bins.{powerAt}
-use Rattle.tau_update.specs.Update.{farPowerTo, factorOf}
+use Rattle.tau_spectra.specs.Powers.{farPowerTo}
+use Rattle.tau_update.specs.Update.{factorOf}
 use Rattle.tau_suppressor.specs.Suppressor.{targetOf}
 
 -- what is tested to be above 0

@@ -29,6 +29,8 @@ use Rattle.tau_steps.proofs.Lengths.{Level, diverge-shadow-length, diverge-leng
 use Rattle.tau_spectra.specs.Windows.{slid, latter}
 use Rattle.tau_spectra.specs.Ring.{Ring, nextSlot}
 use Rattle.tau_spectra.specs.Far.{hearFar}
+use Rattle.tau_spectra.specs.Powers.{powersOf}
+use Rattle.tau_spectra.proofs.True.{powers-257}
 use Rattle.tau_filter.specs.Filter.{Shadowed, Estimated, blockEstimate, errorsOf, badTo, shadowed, estimated}
 use Rattle.tau_update.specs.Update.{Learnt, Updated, framed, stepped, learntAt, learntTo, learntBy, updated}
 use Rattle.tau_suppressor.specs.Suppressor.{Suppressed, suppressed}
@@ -45,15 +47,21 @@ next-slot parts head h =
     pick-if (λ r. r < parts) (eqb (head + 1) parts) (λ _. omega arith)
     (λ e. let d : head + 1 ≡ parts → ⊥ = eqb-false (head + 1) parts e in omega arith)
 
-heard-head : (parts : ℕ) (f : Far) (x xs : List Float) → f .head < parts → hearFar parts f x xs .far .head < parts
+heard-head : (parts : ℕ) (f : Far) (x xs ps : List Float) → f .head < parts → hearFar parts f x xs ps .far .head < parts
 unfolding hearFar
-heard-head parts f x xs h = next-slot parts (f .head) h
+heard-head parts f x xs ps h = next-slot parts (f .head) h
 
-heard-length : (parts : ℕ) (f : Far) (x xs : List Float) → f .head < parts → length xs ≡ 514 * parts → length (hearFar parts f x xs .spectra) ≡ 514 * parts
+heard-length : (parts : ℕ) (f : Far) (x xs ps : List Float) → f .head < parts → length xs ≡ 514 * parts → length (hearFar parts f x xs ps .spectra) ≡ 514 * parts
 unfolding hearFar
-heard-length parts f x xs h e =
+heard-length parts f x xs ps h e =
     let l = next-slot parts (f .head) h in
     length-with 514 (nextSlot parts (f .head)) xs (spectrumOf (slid (f .window) x)) (omega arith) (spectrum-514 (slid (f .window) x)) ∙ e
+
+powers-length : (parts : ℕ) (f : Far) (x xs ps : List Float) → f .head < parts → length ps ≡ 257 * parts → length (hearFar parts f x xs ps .powers) ≡ 257 * parts
+unfolding hearFar
+powers-length parts f x xs ps h e =
+    let l = next-slot parts (f .head) h in
+    length-with 257 (nextSlot parts (f .head)) ps (powersOf (spectrumOf (slid (f .window) x))) (omega arith) (powers-257 (spectrumOf (slid (f .window) x))) ∙ e
 
 -- ---- the rescue streak, below 8 through every step
 
@@ -81,12 +89,12 @@ unfolding compares
 compares-streak adapt active near energy n f m h =
     compared-streak _ _ (f .shadowError) (f .output .error) n (f .output .paths) (m .transfers) (f .output .shadow) (f .output .output) h
 
-updated-streak : (runs : Bool) (ring : Ring) (error : List Float) (scale : Float) (means : List Float) (p : Paths) (resets : ℕ) (sh : List Float)
-    → p .«rescue_streak» < 8 → updated runs ring error scale means p resets sh .paths .«rescue_streak» < 8
+updated-streak : (runs : Bool) (ring : Ring) (farPower error : List Float) (scale : Float) (means : List Float) (p : Paths) (resets : ℕ) (sh : List Float)
+    → p .«rescue_streak» < 8 → updated runs ring farPower error scale means p resets sh .paths .«rescue_streak» < 8
 unfolding updated
-updated-streak runs ring error scale means p resets sh h =
+updated-streak runs ring farPower error scale means p resets sh h =
     let Q : Updated → Type 0 = λ r. r .paths .«rescue_streak» < 8 in
-    pick-if Q runs (λ _. pick-if Q (learntBy ring error scale means sh .finite) (λ _. h) (λ _. diverge-shadow-streak p resets _)) (λ _. h)
+    pick-if Q runs (λ _. pick-if Q (learntBy ring farPower error scale means sh .finite) (λ _. h) (λ _. diverge-shadow-streak p resets _)) (λ _. h)
 
 delivered-streak : (runs protect : Bool) (near : List Float) (energy : Float) (n : ℕ) (b : Estimated) (m : Mic) (p : Paths) (resets : ℕ) (ou : List Float)
     → p .«rescue_streak» < 8 → delivered runs protect near energy n b m p resets ou .guarded .paths .«rescue_streak» < 8
@@ -145,14 +153,14 @@ learnt-lengths ring e rates sh h =
     iter-keeps (λ (l : Learnt). length (l .weights) ≡ 514 * ring .partitions) (learntAt ring e rates) (record { weights = sh; finite = true; overs = 0 }) (ring .partitions) h
     (λ p l b g. learnt-length ring e rates p l b g)
 
-updated-length : (runs : Bool) (ring : Ring) (error : List Float) (scale : Float) (means : List Float) (p : Paths) (resets : ℕ) (sh : List Float)
-    → length sh ≡ 514 * ring .partitions → length (updated runs ring error scale means p resets sh .shadow) ≡ 514 * ring .partitions
+updated-length : (runs : Bool) (ring : Ring) (farPower error : List Float) (scale : Float) (means : List Float) (p : Paths) (resets : ℕ) (sh : List Float)
+    → length sh ≡ 514 * ring .partitions → length (updated runs ring farPower error scale means p resets sh .shadow) ≡ 514 * ring .partitions
 unfolding updated
-updated-length runs ring error scale means p resets sh h =
+updated-length runs ring farPower error scale means p resets sh h =
     let Q : Updated → Type 0 = λ r. length (r .shadow) ≡ 514 * ring .partitions in
     let l = learnt-lengths ring (spectrumOf (framed error)) _ sh h in
     pick-if Q runs
-    (λ _. pick-if Q (learntBy ring error scale means sh .finite) (λ _. l) (λ _. diverge-shadow-length p resets _ ∙ l)) (λ _. h)
+    (λ _. pick-if Q (learntBy ring farPower error scale means sh .finite) (λ _. l) (λ _. diverge-shadow-length p resets _ ∙ l)) (λ _. h)
 
 delivered-length : (runs protect : Bool) (near : List Float) (energy : Float) (n : ℕ) (b : Estimated) (m : Mic) (p : Paths) (resets : ℕ) (ou : List Float)
     → length (delivered runs protect near energy n b m p resets ou .guarded .output) ≡ length ou
@@ -198,7 +206,7 @@ module _ (flagged : Bool) (playing : Playing) (b : Block) (m : Microphone) where
   unfolding grouped
   grouped-streak h =
       delivered-streak _ _ (b .near) _ (b .valid) _ (m .mic) _ _ _
-      (updated-streak _ (playing .ring) _ _ _ _ _ _
+      (updated-streak _ (playing .ring) _ _ _ _ _ _ _
       (compares-streak (b .adapt) (playing .active) (b .near) _ (b .valid) _ (m .mic) (filtered-streak (playing .ring) (b .near) (m .mic) (m .shadow) (m .output) h)))
 
   grouped-count : m .mic .detector .«dtd_blocks» ≤ 64 → grouped flagged playing b m .microphone .mic .detector .«dtd_blocks» ≤ 64
@@ -213,7 +221,7 @@ module _ (flagged : Bool) (playing : Playing) (b : Block) (m : Microphone) where
       let j = compares-lengths k (b .adapt) (playing .active) (b .near) _ (b .valid) _ (m .mic)
       (filtered-lengths k (playing .ring) (b .near) (m .mic) (m .shadow) (m .output) h) in
       record {
-        shadow = updated-length _ (playing .ring) _ _ _ _ _ _ (j .shadow);
+        shadow = updated-length _ (playing .ring) _ _ _ _ _ _ _ (j .shadow);
         output = delivered-length _ _ (b .near) _ (b .valid) _ (m .mic) _ _ _ ∙ j .output;
       }
 
@@ -238,11 +246,12 @@ module _ (flagged : Bool) (playing : Playing) (b : Block) (m : Microphone) where
 
 -- ---- a block
 
--- 514 * P numbers in each lent buffer
-pub record Sized (parts : ℕ) (sh ou xs : List Float) : Type 0 where
-  pub shadow : length sh ≡ 514 * parts
-  pub output : length ou ≡ 514 * parts
-  pub spectra : length xs ≡ 514 * parts
+-- an engine's lent buffers have their lengths, for so many partitions
+pub record Sized (parts : ℕ) (e : Engine) : Type 0 where
+  pub shadow : length (e .shadow) ≡ 514 * parts
+  pub output : length (e .output) ≡ 514 * parts
+  pub spectra : length (e .spectra) ≡ 514 * parts
+  pub powers : length (e .powers) ≡ 257 * parts
 
 below : {n : ℕ} → n < 8 → n ≤ 7
 below h = omega arith
@@ -256,7 +265,7 @@ ranges-kept e far b h =
     record {
       some = h .some;
       most = h .most;
-      inring = heard-head (s .partitions) (s .far) far (e .spectra) (h .inring);
+      inring = heard-head (s .partitions) (s .far) far (e .spectra) (e .powers) (h .inring);
       waiting = h .waiting;
       streak = below (listen-streak (s .suppress) _ b (record { mic = s .mic; shadow = e .shadow; output = e .output }) k);
       count = listen-count (s .suppress) _ b (record { mic = s .mic; shadow = e .shadow; output = e .output }) (h .count);
@@ -264,13 +273,17 @@ ranges-kept e far b h =
 
 -- the lent buffers keep their lengths,
 pub lengths-kept : (e : Engine) (far : List Float) (b : Block) → e .state .far .head < e .state .partitions
-    → Sized (e .state .partitions) (e .shadow) (e .output) (e .spectra)
-    → Sized (e .state .partitions) (runBlock e far b .engine .shadow) (runBlock e far b .engine .output) (runBlock e far b .engine .spectra)
+    → Sized (e .state .partitions) e → Sized (e .state .partitions) (runBlock e far b .engine)
 unfolding runBlock
 lengths-kept e far b l h =
     let s = e .state in
     let z = listen-lengths (s .suppress) _ b (record { mic = s .mic; shadow = e .shadow; output = e .output }) (record { shadow = h .shadow; output = h .output }) in
-    record { shadow = z .shadow; output = z .output; spectra = heard-length (s .partitions) (s .far) far (e .spectra) l (h .spectra) }
+    record {
+      shadow = z .shadow;
+      output = z .output;
+      spectra = heard-length (s .partitions) (s .far) far (e .spectra) (e .powers) l (h .spectra);
+      powers = powers-length (s .partitions) (s .far) far (e .spectra) (e .powers) l (h .powers);
+    }
 
 -- and a whole block is delivered.
 pub length-block : (e : Engine) (far : List Float) (b : Block) → length (runBlock e far b .block) ≡ 256

@@ -4,3 +4,4 @@ pub mod Muted
 pub mod Silence
 pub mod Ran
 pub mod Resets
+pub mod Powers

@@ -11,9 +11,8 @@ use Rattle.tau_state.specs.Sums.{energyOf, crossOf}
 use Rattle.tau_detector.specs.Detector.{coherenceOf, learned, stands}
 use Rattle.tau_steps.proofs.Muted.{judged-muted, judged-heard}
 use Rattle.tau_spectra.specs.Ring.{ringOf}
-use Rattle.tau_spectra.specs.Far.{hearFar}
 use Rattle.tau_filter.specs.Filter.{shadowed}
-use Rattle.tau_block.specs.Block.{Block, Engine, runBlock, listen}
+use Rattle.tau_block.specs.Block.{Block, Engine, heardIn, runBlock, listen}
 
 pub muted-block : (e : Engine) (far : List Float) (b : Block) → T (eq (energyOf (b .near) (b .valid)) zero64)
     → runBlock e far b .engine .state .mic .detector ≡ stands (e .state .mic .detector)
@@ -21,7 +20,7 @@ unfolding runBlock listen
 muted-block e far b h = judged-muted _ (energyOf (b .near) (b .valid)) (b .near) _ (b .valid) (e .state .mic .detector) h
 
 pub heard-block : (e : Engine) (far : List Float) (b : Block) → let s = e .state in
-    let heard = hearFar (s .partitions) (s .far) far (e .spectra) in
+    let heard = heardIn e far in
     let ring = ringOf (s .partitions) (heard .far .head) (heard .spectra) in
     let estimate = shadowed ring (b .near) (s .mic .paths) (s .mic .«divergence_resets») (e .shadow) .estimate in
     let energy = energyOf (b .near) (b .valid) in

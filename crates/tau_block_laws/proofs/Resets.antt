@@ -76,7 +76,7 @@ learnt-clears false finite new means p m overs w sh = refl
 
 pub update-clears : UpdateClears
 unfolding updated
-update-clears runs ring error scale means p m sh = learnt-clears runs (learntBy ring error scale means sh .finite) _ means p m _ _ sh
+update-clears runs ring farPower error scale means p m sh = learnt-clears runs (learntBy ring farPower error scale means sh .finite) _ means p m _ _ sh
 
 -- step 8
 pub guard-clears : GuardClears
@@ -109,11 +109,11 @@ unfolding filtered
 filtered-resets ring near m sh ou =
     estimated-resets ring near _ _ _ _ ou ∙ ap (by _) (shadowed-resets ring near (m .paths) (m .«divergence_resets») sh)
 
-updated-resets : (runs : Bool) (ring : Ring) (error : List Float) (scale : Float) (means : List Float) (p : Paths) (m : ℕ) (sh : List Float)
-    → updated runs ring error scale means p m sh .resets ≡ by (runs && not (learntBy ring error scale means sh .finite)) m
+updated-resets : (runs : Bool) (ring : Ring) (farPower error : List Float) (scale : Float) (means : List Float) (p : Paths) (m : ℕ) (sh : List Float)
+    → updated runs ring farPower error scale means p m sh .resets ≡ by (runs && not (learntBy ring farPower error scale means sh .finite)) m
 unfolding by divergeShadow
-updated-resets runs ring error scale means p m sh =
-    ap (λ (r : ShadowClear). r .resets) (update-clears runs ring error scale means p m sh) ∙ picked (λ (r : ShadowClear). r .resets) _ _ _
+updated-resets runs ring farPower error scale means p m sh =
+    ap (λ (r : ShadowClear). r .resets) (update-clears runs ring farPower error scale means p m sh) ∙ picked (λ (r : ShadowClear). r .resets) _ _ _
 
 guarded-resets : (near : List Float) (en : Float) (n : ℕ) (g : Guard) (u : Suppressor) (p : Paths) (m : ℕ) (block ou : List Float)
     → guarded near en n g u p m block ou .resets ≡ by (trips (watched en (energyOf block n) g)) m
@@ -153,7 +153,7 @@ grouped-resets : (flagged : Bool) (playing : Playing) (b : Block) (m : Microphon
 unfolding grouped clearsIn
 grouped-resets flagged playing b m =
     delivered-resets _ _ (b .near) _ (b .valid) _ (m .mic) _ _ _
-    ∙ ap (by _) (updated-resets _ (playing .ring) _ _ _ _ _ _ ∙ ap (by _) (filtered-resets (playing .ring) (b .near) (m .mic) (m .shadow) (m .output)))
+    ∙ ap (by _) (updated-resets _ (playing .ring) _ _ _ _ _ _ _ ∙ ap (by _) (filtered-resets (playing .ring) (b .near) (m .mic) (m .shadow) (m .output)))
     ∙ four (clearsIn flagged playing b m) (m .mic .«divergence_resets»)
 
 listen-resets : (flagged : Bool) (playing : Playing) (b : Block) (m : Microphone)

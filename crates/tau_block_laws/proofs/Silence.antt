@@ -139,9 +139,10 @@ record Hushed (parts : ℕ) (h : Heard) : Type 0 where
   spectra : Kept Zero (514 * parts) (h .spectra)
   quiet : h .active ≡ false
 
-heard-hushed : {s : TauCanceller} {far sh ou xs : List Float} → Silent s sh ou xs → Kept Zero 256 far → Hushed (s .partitions) (hearFar (s .partitions) (s .far) far xs)
+heard-hushed : {s : TauCanceller} {far sh ou xs : List Float} (ps : List Float) → Silent s sh ou xs → Kept Zero 256 far
+    → Hushed (s .partitions) (hearFar (s .partitions) (s .far) far xs ps)
 unfolding hearFar
-heard-hushed {s} {far} {sh} {ou} {xs} S F =
+heard-hushed {s} {far} {sh} {ou} {xs} ps S F =
     let w = window-zero (S .window) F in
     let r = next-slot (s .partitions) (s .far .head) (S .ring) in
     let p : energyPeak (s .far .«far_energy_peak») (energyOf far 256) ≡ zero64 =
@@ -319,15 +320,15 @@ learnt-plus {sh} ring e rates X W =
     (λ p l b h. learnt-going ring e rates p l b X h)
 
 -- whether it runs or not; weights that are not all finite are cleared
-updated-plus : {sh : List Float} (runs : Bool) (ring : Ring) (error : List Float) (scale : Float) (means : List Float) (p : Paths) (m : ℕ)
+updated-plus : {sh : List Float} (runs : Bool) (ring : Ring) (farPower error : List Float) (scale : Float) (means : List Float) (p : Paths) (m : ℕ)
     → Kept Zero (514 * ring .partitions) (ring .spectra) → Kept Plus (514 * ring .partitions) sh
-    → Kept Plus (514 * ring .partitions) (updated runs ring error scale means p m sh .shadow)
+    → Kept Plus (514 * ring .partitions) (updated runs ring farPower error scale means p m sh .shadow)
 unfolding updated divergeShadow cleared
-updated-plus {sh} runs ring error scale means p m X W =
+updated-plus {sh} runs ring farPower error scale means p m X W =
     let k = 514 * ring .partitions in
     let Q : Updated → Type 0 = λ r. Kept Plus k (r .shadow) in
     pick-if Q runs
-    (λ _. pick-if Q (learntBy ring error scale means sh .finite) (learnt-plus ring _ _ X W .still)
+    (λ _. pick-if Q (learntBy ring farPower error scale means sh .finite) (learnt-plus ring _ _ X W .still)
     (λ _. rw (learnt-lengths ring _ _ sh (W .long)) (plus-replicate k)))
     (λ _. W)
 
@@ -424,7 +425,7 @@ grouped-near flagged playing b m p s a X N l W =
     let f = filtered-through (playing .ring) (m .mic) p N X W in
     let j = compares-not (b .adapt) (playing .active) (b .near) _ (b .valid) _ (m .mic) a (f .weights) in
     let g = delivered-near _ _ (b .near) _ (b .valid) _ (m .mic) _ _ k (not-l _ _ (not-r flagged (playing .sounded) s)) (f .passed) (j .output) in
-    record { weights = record { shadow = updated-plus _ (playing .ring) _ _ _ _ _ X (j .shadow); output = g .output }; passed = g .passed }
+    record { weights = record { shadow = updated-plus _ (playing .ring) _ _ _ _ _ _ X (j .shadow); output = g .output }; passed = g .passed }
 
 -- ---- the block
 
@@ -451,7 +452,7 @@ pub block-passed : (e : Engine) (far : List Float) (b : Block) → Silent (e .st
 unfolding runBlock
 block-passed e far b S N F l =
     let s = e .state in
-    let h = heard-hushed S F in
+    let h = heard-hushed (e .powers) S F in
     let p : 0 < s .partitions = omega (arith, S .ring) in
     let m : Microphone = record { mic = s .mic; shadow = e .shadow; output = e .output } in
     let r = subst (Listens (514 * s .partitions) (b .valid) (b .near)) (listen-grouped (s .suppress) _ b m)

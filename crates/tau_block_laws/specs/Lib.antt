@@ -1,3 +1,4 @@
 pub mod Bounds
 pub mod Silence
 pub mod Resets
+pub mod Powers

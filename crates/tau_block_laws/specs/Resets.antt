@@ -14,12 +14,11 @@ use Rattle.tau_state.specs.declared.state.Suppressor.{Suppressor}
 use Rattle.tau_state.specs.declared.state.Guard.{Guard}
 use Rattle.tau_clears.specs.Clears.{ShadowClear, BothClear, OutputHalved, divergeShadow, divergeOf, retireOutput}
 use Rattle.tau_guard.specs.Guard.{watched, trips, guarded}
-use Rattle.tau_spectra.specs.Ring.{Ring, ringOf}
-use Rattle.tau_spectra.specs.Far.{hearFar}
+use Rattle.tau_spectra.specs.Ring.{Ring}
 use Rattle.tau_filter.specs.Filter.{shadowed, estimated}
 use Rattle.tau_update.specs.Update.{learntBy, updated}
 use Rattle.tau_suppressor.specs.Suppressor.{suppressed}
-use Rattle.tau_block.specs.Block.{Block, Playing, Microphone, Engine}
+use Rattle.tau_block.specs.Block.{Block, Playing, Microphone, Engine, playedBy, heardIn}
 use Rattle.tau_block.specs.Groups.{filtered, compares, updates, suppresses}
 
 -- Whether a clear happens, at each of the four places of a block where one may.
@@ -40,7 +39,7 @@ clearsIn flagged playing b m =
     let energy = energyOf (b .near) (b .valid) in
     let f = filtered (playing .ring) (b .near) mic (m .shadow) (m .output) in
     let j = compares (b .adapt) (playing .active) (b .near) energy (b .valid) f mic in
-    let learnt = learntBy (playing .ring) (f .shadowError) (j .detector .«step_scale») (mic .«far_power_mean») (j .comparison .shadow) in
+    let learnt = learntBy (playing .ring) (playing .farPower) (f .shadowError) (j .detector .«step_scale») (mic .«far_power_mean») (j .comparison .shadow) in
     let suppression = suppressed (suppresses flagged (playing .sounded) f) (j .detector .«protect_output») (f .output .error) (f .output .spectrum) (f .output .suppressor) in
     record {
       shadow = f .shadowDiverged;
@@ -53,10 +52,7 @@ clearsIn flagged playing b m =
 unfoldable pub clearsOf : Engine → List Float → Block → Clears
 clearsOf e far b =
     let s = e .state in
-    let heard = hearFar (s .partitions) (s .far) far (e .spectra) in
-    clearsIn (s .suppress)
-    (record { ring = ringOf (s .partitions) (heard .far .head) (heard .spectra); sounded = heard .far .«far_active»; active = heard .active })
-    b (record { mic = s .mic; shadow = e .shadow; output = e .output })
+    clearsIn (s .suppress) (playedBy (s .partitions) (heardIn e far)) b (record { mic = s .mic; shadow = e .shadow; output = e .output })
 
 -- how many of them
 unfoldable pub told : Bool → ℕ
@@ -90,9 +86,9 @@ OutputClears = (ring : Ring) (near : List Float) (paths : Paths) (suppressor : S
 
 -- step 6, which clears the weights that it wrote
 abbrev pub UpdateClears : Type 0
-UpdateClears = (runs : Bool) (ring : Ring) (error : List Float) (scale : Float) (means : List Float) (paths : Paths) (resets : ℕ) (shadow : List Float)
-    → let after = updated runs ring error scale means paths resets shadow in
-    let learnt = learntBy ring error scale means shadow in
+UpdateClears = (runs : Bool) (ring : Ring) (farPower error : List Float) (scale : Float) (means : List Float) (paths : Paths) (resets : ℕ) (shadow : List Float)
+    → let after = updated runs ring farPower error scale means paths resets shadow in
+    let learnt = learntBy ring farPower error scale means shadow in
     _≡_ {A = ShadowClear} (record { paths = after .paths; resets = after .resets; shadow = after .shadow })
     (pick (runs && not (learnt .finite)) (divergeShadow paths resets (learnt .weights))
     (record { paths = paths; resets = resets; shadow = pick runs (learnt .weights) shadow }))

@@ -16,22 +16,22 @@ use Rattle.tau_block.specs.Block.{Ran, runBlock}
 use Rattle.tau_frame.specs.Pairs.{Engine, Run, emptied, blockOf, padded, flushedOf}
 use Rattle.tau_frame.proofs.Going.{block-long}
 
-pub record Flushed (s : TauCanceller) (sh ou xs out : List Float) (r : Ran) (out' : List Float) : Type 0 where
+pub record Flushed (s : TauCanceller) (sh ou xs ps out : List Float) (r : Ran) (out' : List Float) : Type 0 where
   pub run : _≡_ {A = Run} (record {
     engine = r .engine;
     samples = take (s .carried) out';
     last = Did (r .told);
-  }) (flushedOf (record { state = s; shadow = sh; output = ou; spectra = xs }))
+  }) (flushedOf (record { state = s; shadow = sh; output = ou; spectra = xs; powers = ps }))
   pub tail : drop (s .carried) out' ≡ drop (s .carried) out
   pub room : s .carried ≤ length out'
 
-pub flush-is : (s : TauCanceller) (sh ou xs out pn pf : List Float) → pn ≡ padded (s .«near_carry») (s .carried) → pf ≡ padded (s .«far_carry») (s .carried)
+pub flush-is : (s : TauCanceller) (sh ou xs ps out pn pf : List Float) → pn ≡ padded (s .«near_carry») (s .carried) → pf ≡ padded (s .«far_carry») (s .carried)
     → (s .carried ≡ 0 → ⊥) → s .carried ≤ 255 → s .carried ≤ length out
-    → (r : Ran) → r ≡ runBlock (emptied (record { state = s; shadow = sh; output = ou; spectra = xs })) pf (record { near = pn; valid = s .carried; adapt = false })
+    → (r : Ran) → r ≡ runBlock (emptied (record { state = s; shadow = sh; output = ou; spectra = xs; powers = ps })) pf (record { near = pn; valid = s .carried; adapt = false })
     → (out' : List Float) → out' ≡ take 0 out ++ (take (s .carried) (r .block) ++ drop (0 + s .carried) out)
-    → Flushed s sh ou xs out r out'
+    → Flushed s sh ou xs ps out r out'
 unfolding flushedOf blockOf
-flush-is s sh ou xs out pn pf en ef h few room r er out' eo =
+flush-is s sh ou xs ps out pn pf en ef h few room r er out' eo =
     let n = s .carried in
     let blk = r .block in
     let l : length (take n blk) ≡ n = length-take-le n blk (block-long _ _ _ r er n (omega arith)) in

@@ -45,6 +45,7 @@ waiting e near far =
       shadow = e .shadow;
       output = e .output;
       spectra = e .spectra;
+      powers = e .powers;
     }
 
 one-waits : (e : Engine) (x y : Float) → e .state .carried ≤ 254 → waitsOf (fillOf e x y) ≡ pairOf e x y

@@ -1,4 +1,4 @@
--- The engine of what lies lent: the state's rest and arrays, and the three buffers. And what a call leaves of them where no block is run.
+-- The engine of what lies lent: the state's rest and arrays, and the four buffers. And what a call leaves of them where no block is run.
 -- Definitions only.
 use mathlib.Core.List.{List, [], _∷_}
 use Prim.Native.Nat.{ℕ, _+_}
@@ -12,9 +12,10 @@ use Rattle.tau_state.specs.declared.report.Last.the-variants.{NoneRan}
 use Rattle.tau_frame.specs.declared.frame.Framed.{Framed}
 use Rattle.tau_frame.specs.Pairs.{Engine}
 
--- a rest, the two carries, the far window, the means of far power and the suppressor; then shadow, output and spectra
-abbrev pub engineOf : Rest → List Float → List Float → List Float → List Float → Suppressor → List Float → List Float → List Float → Engine
-engineOf r near far window means u sh ou xs = record { state = wholeOf r near far window means u; shadow = sh; output = ou; spectra = xs }
+-- a rest, the two carries, the far window, the means of far power and the suppressor; then shadow, output, spectra and powers
+abbrev pub engineOf : Rest → List Float → List Float → List Float → List Float → Suppressor → List Float → List Float → List Float → List Float → Engine
+engineOf r near far window means u sh ou xs ps =
+    record { state = wholeOf r near far window means u; shadow = sh; output = ou; spectra = xs; powers = ps }
 
 -- a carry with the samples at place n and behind it
 unfoldable pub filledOf : List Float → ℕ → List Float → List Float

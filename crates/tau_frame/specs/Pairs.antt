@@ -43,7 +43,7 @@ carrying s ns fs n = record {
 abbrev pub emptied : Engine → Engine
 emptied e =
     let s = e .state in
-    record { state = carrying s (s .«near_carry») (s .«far_carry») 0; shadow = e .shadow; output = e .output; spectra = e .spectra }
+    record { state = carrying s (s .«near_carry») (s .«far_carry») 0; shadow = e .shadow; output = e .output; spectra = e .spectra; powers = e .powers }
 
 -- a block, after which the carry is empty: of near and far the first n are valid, and these are delivered; adapt says that it is no flush
 unfoldable pub blockOf : Engine → List Float → List Float → ℕ → Bool → Run
@@ -57,7 +57,7 @@ placed s x y =
     carrying s (set (s .«near_carry») (s .carried) (finiteOrZero x)) (set (s .«far_carry») (s .carried) (finiteOrZero y)) (s .carried + 1)
 
 abbrev pub fillOf : Engine → Float → Float → Engine
-fillOf e x y = record { state = placed (e .state) x y; shadow = e .shadow; output = e .output; spectra = e .spectra }
+fillOf e x y = record { state = placed (e .state) x y; shadow = e .shadow; output = e .output; spectra = e .spectra; powers = e .powers }
 
 -- one pair
 unfoldable pub pairOf : Engine → Float → Float → Run

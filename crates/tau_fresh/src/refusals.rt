@@ -5,9 +5,9 @@ ghost use mathlib.Core.Path.{_≡_};
 ghost use Prim.Native.Nat.{_≤_};
 ghost use Rattle.tau_fresh.specs.Refusals.{sizedOf, createRefusal, stateRefusal, pairsRefusal, processRefusal, flushRefusal};
 
-fn sizes_fit(partitions: usize, shadow: usize, output: usize, spectra: usize) -> bool
+fn sizes_fit(partitions: usize, shadow: usize, output: usize, spectra: usize, powers: usize) -> bool
     requires { ⌜ partitions ≤ 32 ⌝ }
-    ensures { λ r. ⌜ r ≡ sizedOf partitions shadow output spectra ⌝ }
+    ensures { λ r. ⌜ r ≡ sizedOf partitions shadow output spectra powers ⌝ }
 {
     let n = 514 * partitions;
     if shadow != n {
@@ -16,11 +16,20 @@ fn sizes_fit(partitions: usize, shadow: usize, output: usize, spectra: usize) ->
     if output != n {
         return false;
     }
-    spectra == n
+    if spectra != n {
+        return false;
+    }
+    powers == 257 * partitions
 }
 
-pub fn create_refusal(partitions: usize, shadow: usize, output: usize, spectra: usize) -> u32
-    ensures { λ r. ⌜ r ≡ createRefusal partitions shadow output spectra ⌝ }
+pub fn create_refusal(
+    partitions: usize,
+    shadow: usize,
+    output: usize,
+    spectra: usize,
+    powers: usize,
+) -> u32
+    ensures { λ r. ⌜ r ≡ createRefusal partitions shadow output spectra powers ⌝ }
 {
     if partitions < 1 {
         return 1;
@@ -28,20 +37,26 @@ pub fn create_refusal(partitions: usize, shadow: usize, output: usize, spectra: 
     if 32 < partitions {
         return 1;
     }
-    if !sizes_fit(partitions, shadow, output, spectra) {
+    if !sizes_fit(partitions, shadow, output, spectra, powers) {
         return 2;
     }
     0
 }
 
-pub fn state_refusal(s: TauCanceller, shadow: usize, output: usize, spectra: usize) -> u32
-    ensures { λ r. ⌜ r ≡ stateRefusal s shadow output spectra ⌝ }
+pub fn state_refusal(
+    s: TauCanceller,
+    shadow: usize,
+    output: usize,
+    spectra: usize,
+    powers: usize,
+) -> u32
+    ensures { λ r. ⌜ r ≡ stateRefusal s shadow output spectra powers ⌝ }
 {
     if !in_range(s) {
         return 6;
     }
     let partitions = s.partitions;
-    if !sizes_fit(partitions, shadow, output, spectra) {
+    if !sizes_fit(partitions, shadow, output, spectra, powers) {
         return 2;
     }
     0
@@ -68,13 +83,14 @@ pub fn process_refusal(
     shadow: usize,
     output: usize,
     spectra: usize,
+    powers: usize,
     near: usize,
     far: usize,
     out: usize,
 ) -> u32
-    ensures { λ r. ⌜ r ≡ processRefusal s shadow output spectra near far out ⌝ }
+    ensures { λ r. ⌜ r ≡ processRefusal s shadow output spectra powers near far out ⌝ }
 {
-    let first = state_refusal(s, shadow, output, spectra);
+    let first = state_refusal(s, shadow, output, spectra, powers);
     if first != 0 {
         return first;
     }
@@ -86,11 +102,12 @@ pub fn flush_refusal(
     shadow: usize,
     output: usize,
     spectra: usize,
+    powers: usize,
     out: usize,
 ) -> u32
-    ensures { λ r. ⌜ r ≡ flushRefusal s shadow output spectra out ⌝ }
+    ensures { λ r. ⌜ r ≡ flushRefusal s shadow output spectra powers out ⌝ }
 {
-    let first = state_refusal(s, shadow, output, spectra);
+    let first = state_refusal(s, shadow, output, spectra, powers);
     if first != 0 {
         return first;
     }

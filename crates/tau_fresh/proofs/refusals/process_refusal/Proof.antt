@@ -14,5 +14,5 @@ process-refusal-spec =
     (tie.spec
     (λ c κs. search needs)
     (λ c. rw (← c .before .state-refusal .ensures) (pick-no _ _ _ (ne-eqb _ _ (c .if1 .taken)) refl))
-    (λ c κs. accepted-state _ _ _ _ (sym (c .before .state-refusal .ensures) ∙ c .if1 .left) .ranged .waiting)
+    (λ c κs. accepted-state _ _ _ _ _ (sym (c .before .state-refusal .ensures) ∙ c .if1 .left) .ranged .waiting)
     (λ c. rw (← c .before .before .state-refusal .ensures) (pick-yes _ _ _ (eq-eqb _ _ (c .before .if1 .left)) (c .pairs-refusal .ensures))))

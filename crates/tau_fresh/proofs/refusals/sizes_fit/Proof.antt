@@ -12,4 +12,6 @@ sizes-fit-spec =
     (λ c. search needs)
     (λ c. rw (ne-eqb _ _ (c .if1 .taken)))
     (λ c. rw (eq-eqb _ _ (c .before .if1 .left), ne-eqb _ _ (c .if2 .taken)))
-    (λ c. rw (eq-eqb _ _ (c .before .if1 .left), eq-eqb _ _ (c .if2 .left))))
+    (λ c. rw (eq-eqb _ _ (c .before .before .if1 .left), eq-eqb _ _ (c .before .if2 .left), ne-eqb _ _ (c .if3 .taken)))
+    (λ c. search needs)
+    (λ c. rw (eq-eqb _ _ (c .before .before .if1 .left), eq-eqb _ _ (c .before .if2 .left), eq-eqb _ _ (c .if3 .left))))
