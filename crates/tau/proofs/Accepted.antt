@@ -18,26 +18,26 @@ use Rattle.tau.specs.Calls.{createRefusal, Begun, Called, begunOf, creat
 
 -- ---- creation
 
-module _ (parts : ℕ) (flag : Bool) (sh ou xs : List Float) where
+module _ (parts : ℕ) (flag : Bool) (sh ou xs ps : List Float) where
   -- the number of its refusal
   abbrev createNumber : ℕ
-  createNumber = createRefusal parts (length sh) (length ou) (length xs)
+  createNumber = createRefusal parts (length sh) (length ou) (length xs) (length ps)
 
   -- Creation answers the number of its refusal.
-  pub create-answers : createOf parts flag sh ou xs .answer .refusal ≡ createRefusal parts (length sh) (length ou) (length xs)
+  pub create-answers : createOf parts flag sh ou xs ps .answer .refusal ≡ createRefusal parts (length sh) (length ou) (length xs) (length ps)
   unfolding createOf
   create-answers =
       pick-if (λ (b : Begun). b .answer .refusal ≡ createNumber) (eqb createNumber 0) (λ t. sym (eqb-true createNumber 0 t)) (λ _. refl)
 
-  -- Where that is 0 it leaves the fresh state of the settings, both counters 0, and +0.0 all over the three buffers.
-  pub create-began : createRefusal parts (length sh) (length ou) (length xs) ≡ 0 → createOf parts flag sh ou xs ≡ begunOf parts flag 0 0
+  -- Where that is 0 it leaves the fresh state of the settings, both counters 0, and +0.0 all over the four buffers.
+  pub create-began : createRefusal parts (length sh) (length ou) (length xs) (length ps) ≡ 0 → createOf parts flag sh ou xs ps ≡ begunOf parts flag 0 0
   unfolding createOf
   create-began h = sym (pick-yes _ _ _ (eq-eqb createNumber 0 h) refl)
 
   -- Else it leaves the buffers as they were, and answers the state that is all zero.
-  pub create-refused : (createRefusal parts (length sh) (length ou) (length xs) ≡ 0 → ⊥)
-      → createOf parts flag sh ou xs
-      ≡ record { answer = record { refusal = createRefusal parts (length sh) (length ou) (length xs); state = emptyOf }; shadow = sh; output = ou; spectra = xs }
+  pub create-refused : (createRefusal parts (length sh) (length ou) (length xs) (length ps) ≡ 0 → ⊥)
+      → createOf parts flag sh ou xs ps
+      ≡ record { answer = record { refusal = createRefusal parts (length sh) (length ou) (length xs) (length ps); state = emptyOf }; shadow = sh; output = ou; spectra = xs; powers = ps }
   unfolding createOf
   create-refused h = sym (pick-no _ _ _ (ne-eqb createNumber 0 h) refl)
 
@@ -50,7 +50,7 @@ reset-answers e =
     let r = stateNumber e in
     pick-if (λ (b : Begun). b .answer .refusal ≡ r) (eqb r 0) (λ t. sym (eqb-true r 0 t)) (λ _. refl)
 
--- Where that is 0 it leaves the fresh state of the kept settings, with both counters as they were, and +0.0 all over the three buffers.
+-- Where that is 0 it leaves the fresh state of the kept settings, with both counters as they were, and +0.0 all over the four buffers.
 pub reset-began : (e : Engine) → stateNumber e ≡ 0
     → resetOf e ≡ begunOf (e .state .partitions) (e .state .suppress) (e .state .mic .transfers) (e .state .mic .«divergence_resets»)
 unfolding resetOf
@@ -58,7 +58,7 @@ reset-began e h = sym (pick-yes _ _ _ (eq-eqb (stateNumber e) 0 h) refl)
 
 -- Else it leaves all as it was.
 pub reset-refused : (e : Engine) → (stateNumber e ≡ 0 → ⊥)
-    → resetOf e ≡ record { answer = record { refusal = stateNumber e; state = e .state }; shadow = e .shadow; output = e .output; spectra = e .spectra }
+    → resetOf e ≡ record { answer = record { refusal = stateNumber e; state = e .state }; shadow = e .shadow; output = e .output; spectra = e .spectra; powers = e .powers }
 unfolding resetOf
 reset-refused e h = sym (pick-no _ _ _ (ne-eqb (stateNumber e) 0 h) refl)
 

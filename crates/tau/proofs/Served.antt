@@ -16,7 +16,7 @@ use Rattle.tau.specs.Calls.{Called, answerOf, servedOf}
 
 pub served-is : (e : Engine) (d : ℕ) (last : Last) (out out₀ : List Float) (r : Run) → _≡_ {A = Run} (record { engine = e; samples = take d out; last = last }) r
     → drop d out ≡ drop d out₀ → d ≤ length out → (a : Answer) → a ≡ answerOf 0 d (e .state) last
-    → _≡_ {A = Called} (record { answer = a; shadow = e .shadow; output = e .output; spectra = e .spectra; out = out }) (servedOf r out₀)
+    → _≡_ {A = Called} (record { answer = a; shadow = e .shadow; output = e .output; spectra = e .spectra; powers = e .powers; out = out }) (servedOf r out₀)
 served-is e d last out out₀ r er tail room a ea =
     let k : length (take d out) ≡ d = length-take-le d out room in
     rw (← er, ea, k, ← tail, take-append-drop d out)
@@ -27,6 +27,7 @@ pub served-waits : (refusal : ℕ) (e : Engine) (near far out : List Float) → 
       shadow = e .shadow;
       output = e .output;
       spectra = e .spectra;
+      powers = e .powers;
       out = out;
     })
     (servedOf (pairsOf e near far) out)

@@ -1,4 +1,4 @@
--- What each call leaves: its answer, the three lent buffers and the output buffer. Definitions only.
+-- What each call leaves: its answer, the four lent buffers and the output buffer. Definitions only.
 use Prim.Native.Nat.{ℕ, _*_}
 use mathlib.Core.Bool.{Bool}
 use mathlib.Core.List.{List, _++_}
@@ -24,6 +24,7 @@ pub record Begun : Type 0 where
   pub shadow : List Float
   pub output : List Float
   pub spectra : List Float
+  pub powers : List Float
 
 -- after process and flush
 pub record Called : Type 0 where
@@ -31,6 +32,7 @@ pub record Called : Type 0 where
   pub shadow : List Float
   pub output : List Float
   pub spectra : List Float
+  pub powers : List Float
   pub out : List Float
 
 -- "Creation writes +0.0 to all and gives the state that `reset` gives"
@@ -40,22 +42,23 @@ begunOf parts flag transfers resets = record {
   shadow = replicate (514 * parts) zero64;
   output = replicate (514 * parts) zero64;
   spectra = replicate (514 * parts) zero64;
+  powers = replicate (257 * parts) zero64;
 }
 
 -- ".., with both counters zero"
-unfoldable pub createOf : ℕ → Bool → List Float → List Float → List Float → Begun
-createOf parts flag sh ou xs =
-    let refusal = createRefusal parts (length sh) (length ou) (length xs) in
+unfoldable pub createOf : ℕ → Bool → List Float → List Float → List Float → List Float → Begun
+createOf parts flag sh ou xs ps =
+    let refusal = createRefusal parts (length sh) (length ou) (length xs) (length ps) in
     pick (eqb refusal 0) (begunOf parts flag 0 0)
-    (record { answer = record { refusal = refusal; state = emptyOf }; shadow = sh; output = ou; spectra = xs })
+    (record { answer = record { refusal = refusal; state = emptyOf }; shadow = sh; output = ou; spectra = xs; powers = ps })
 
 -- "Reset keeps the settings and the counters; all else becomes the fresh state."
 unfoldable pub resetOf : Engine → Begun
 resetOf e =
     let s = e .state in
-    let refusal = stateRefusal s (length (e .shadow)) (length (e .output)) (length (e .spectra)) in
+    let refusal = stateRefusal s (length (e .shadow)) (length (e .output)) (length (e .spectra)) (length (e .powers)) in
     pick (eqb refusal 0) (begunOf (s .partitions) (s .suppress) (s .mic .transfers) (s .mic .«divergence_resets»))
-    (record { answer = record { refusal = refusal; state = s }; shadow = e .shadow; output = e .output; spectra = e .spectra })
+    (record { answer = record { refusal = refusal; state = s }; shadow = e .shadow; output = e .output; spectra = e .spectra; powers = e .powers })
 
 -- the report is of the last block; "Where none ran, refusals included, the outcome is a fourth case .. and the rest is read from the state"
 abbrev pub answerOf : ℕ → ℕ → TauCanceller → Last → Answer
@@ -67,7 +70,7 @@ reportedOf u = answerOf (u .refusal) (u .delivered) (u .state) (u .last)
 
 -- "Each of 1 to 6 returns its number, zero delivered and the state as given, and writes nothing."
 abbrev pub refusedOf : ℕ → Engine → List Float → Called
-refusedOf refusal e out = record { answer = answerOf refusal 0 (e .state) NoneRan; shadow = e .shadow; output = e .output; spectra = e .spectra; out = out }
+refusedOf refusal e out = record { answer = answerOf refusal 0 (e .state) NoneRan; shadow = e .shadow; output = e .output; spectra = e .spectra; powers = e .powers; out = out }
 
 -- "Answer 0 writes only the first `delivered` places of the output buffer."
 abbrev pub servedOf : Run → List Float → Called
@@ -78,26 +81,27 @@ servedOf r out =
       shadow = r .engine .shadow;
       output = r .engine .output;
       spectra = r .engine .spectra;
+      powers = r .engine .powers;
       out = r .samples ++ drop n out;
     }
 
 unfoldable pub processOf : Engine → List Float → List Float → List Float → Called
 processOf e near far out =
-    let refusal = processRefusal (e .state) (length (e .shadow)) (length (e .output)) (length (e .spectra)) (length near) (length far) (length out) in
+    let refusal = processRefusal (e .state) (length (e .shadow)) (length (e .output)) (length (e .spectra)) (length (e .powers)) (length near) (length far) (length out) in
     pick (eqb refusal 0) (servedOf (pairsOf e near far) out) (refusedOf refusal e out)
 
 unfoldable pub flushOf : Engine → List Float → Called
 flushOf e out =
-    let refusal = flushRefusal (e .state) (length (e .shadow)) (length (e .output)) (length (e .spectra)) (length out) in
+    let refusal = flushRefusal (e .state) (length (e .shadow)) (length (e .output)) (length (e .spectra)) (length (e .powers)) (length out) in
     pick (eqb refusal 0) (servedOf (flushedOf e) out) (refusedOf refusal e out)
 
 -- the number of a reset's refusal, of a process's and of a flush's
 abbrev pub stateNumber : Engine → ℕ
-stateNumber e = stateRefusal (e .state) (length (e .shadow)) (length (e .output)) (length (e .spectra))
+stateNumber e = stateRefusal (e .state) (length (e .shadow)) (length (e .output)) (length (e .spectra)) (length (e .powers))
 
 abbrev pub processNumber : Engine → List Float → List Float → List Float → ℕ
 processNumber e near far out =
-    processRefusal (e .state) (length (e .shadow)) (length (e .output)) (length (e .spectra)) (length near) (length far) (length out)
+    processRefusal (e .state) (length (e .shadow)) (length (e .output)) (length (e .spectra)) (length (e .powers)) (length near) (length far) (length out)
 
 abbrev pub flushNumber : Engine → List Float → ℕ
-flushNumber e out = flushRefusal (e .state) (length (e .shadow)) (length (e .output)) (length (e .spectra)) (length out)
+flushNumber e out = flushRefusal (e .state) (length (e .shadow)) (length (e .output)) (length (e .spectra)) (length (e .powers)) (length out)

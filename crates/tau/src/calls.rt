@@ -68,10 +68,17 @@ pub fn create(
     shadow: &mut [f64],
     output: &mut [f64],
     spectra: &mut [f64],
+    powers: &mut [f64],
 ) -> Started
-    ensures { λ r. ⌜ Create partitions suppress (now (shadow .entry)) (now (output .entry)) (now (spectra .entry)) r (now (shadow .exit)) (now (output .exit)) (now (spectra .exit)) ⌝ }
+    ensures { λ r. ⌜ Create partitions suppress (now (shadow .entry)) (now (output .entry)) (now (spectra .entry)) (now (powers .entry)) r (now (shadow .exit)) (now (output .exit)) (now (spectra .exit)) (now (powers .exit)) ⌝ }
 {
-    let refusal = create_refusal(partitions, shadow.len(), output.len(), spectra.len());
+    let refusal = create_refusal(
+        partitions,
+        shadow.len(),
+        output.len(),
+        spectra.len(),
+        powers.len(),
+    );
     if refusal != 0 {
         return Started {
             refusal,
@@ -81,6 +88,7 @@ pub fn create(
     clear(shadow);
     clear(output);
     clear(spectra);
+    clear(powers);
     Started {
         refusal: 0,
         state: fresh(partitions, suppress, 0, 0),
@@ -92,16 +100,18 @@ pub fn reset(
     shadow: &mut [f64],
     output: &mut [f64],
     spectra: &mut [f64],
+    powers: &mut [f64],
 ) -> Started
-    ensures { λ r. ⌜ Reset (record { state = s; shadow = now (shadow .entry); output = now (output .entry); spectra = now (spectra .entry) }) r (now (shadow .exit)) (now (output .exit)) (now (spectra .exit)) ⌝ }
+    ensures { λ r. ⌜ Reset (record { state = s; shadow = now (shadow .entry); output = now (output .entry); spectra = now (spectra .entry); powers = now (powers .entry) }) r (now (shadow .exit)) (now (output .exit)) (now (spectra .exit)) (now (powers .exit)) ⌝ }
 {
-    let refusal = state_refusal(s, shadow.len(), output.len(), spectra.len());
+    let refusal = state_refusal(s, shadow.len(), output.len(), spectra.len(), powers.len());
     if refusal != 0 {
         return Started { refusal, state: s };
     }
     clear(shadow);
     clear(output);
     clear(spectra);
+    clear(powers);
     let m = s.mic;
     Started {
         refusal: 0,
@@ -124,13 +134,14 @@ fn process_lent(
     shadow: &mut [f64],
     output: &mut [f64],
     spectra: &mut [f64],
+    powers: &mut [f64],
     near: &[f32],
     far: &[f32],
     out: &mut [f32],
 ) -> Framed
     requires { ⌜ (length (now «near_carry») ≡ 256) × (length (now «far_carry») ≡ 256) ⌝ }
-    requires { ⌜ refusal ≡ processRefusal (wholeOf start (now «near_carry») (now «far_carry») (now «far_window») (now means) (suppressorOf (now echo) (now err) (now gain) (now window))) (length (now shadow)) (length (now output)) (length (now spectra)) (length (now near)) (length (now far)) (length (now out)) ⌝ }
-    ensures { λ r. ⌜ record { answer = answerOf refusal (r .delivered) (wholeOf (r .rest) (now («near_carry» .exit)) (now («far_carry» .exit)) (now («far_window» .exit)) (now (means .exit)) (suppressorOf (now (echo .exit)) (now (err .exit)) (now (gain .exit)) (now (window .exit)))) (r .last); shadow = now (shadow .exit); output = now (output .exit); spectra = now (spectra .exit); out = now (out .exit) } ≡ processOf (engineOf start (now («near_carry» .entry)) (now («far_carry» .entry)) (now («far_window» .entry)) (now (means .entry)) (suppressorOf (now (echo .entry)) (now (err .entry)) (now (gain .entry)) (now (window .entry))) (now (shadow .entry)) (now (output .entry)) (now (spectra .entry))) (now (near .entry)) (now (far .entry)) (now (out .entry)) ⌝ }
+    requires { ⌜ refusal ≡ processRefusal (wholeOf start (now «near_carry») (now «far_carry») (now «far_window») (now means) (suppressorOf (now echo) (now err) (now gain) (now window))) (length (now shadow)) (length (now output)) (length (now spectra)) (length (now powers)) (length (now near)) (length (now far)) (length (now out)) ⌝ }
+    ensures { λ r. ⌜ record { answer = answerOf refusal (r .delivered) (wholeOf (r .rest) (now («near_carry» .exit)) (now («far_carry» .exit)) (now («far_window» .exit)) (now (means .exit)) (suppressorOf (now (echo .exit)) (now (err .exit)) (now (gain .exit)) (now (window .exit)))) (r .last); shadow = now (shadow .exit); output = now (output .exit); spectra = now (spectra .exit); powers = now (powers .exit); out = now (out .exit) } ≡ processOf (engineOf start (now («near_carry» .entry)) (now («far_carry» .entry)) (now («far_window» .entry)) (now (means .entry)) (suppressorOf (now (echo .entry)) (now (err .entry)) (now (gain .entry)) (now (window .entry))) (now (shadow .entry)) (now (output .entry)) (now (spectra .entry)) (now (powers .entry))) (now (near .entry)) (now (far .entry)) (now (out .entry)) ⌝ }
 {
     if refusal != 0 {
         return stay(start);
@@ -151,6 +162,7 @@ fn process_lent(
         shadow,
         output,
         spectra,
+        powers,
         near,
         far,
         out,
@@ -163,17 +175,19 @@ pub fn process_unreported(
     shadow: &mut [f64],
     output: &mut [f64],
     spectra: &mut [f64],
+    powers: &mut [f64],
     near: &[f32],
     far: &[f32],
     out: &mut [f32],
 ) -> Unreported
-    ensures { λ r. ⌜ Process (record { state = s; shadow = now (shadow .entry); output = now (output .entry); spectra = now (spectra .entry) }) (now (near .entry)) (now (far .entry)) (now (out .entry)) (reportedOf r) (now (shadow .exit)) (now (output .exit)) (now (spectra .exit)) (now (out .exit)) ⌝ }
+    ensures { λ r. ⌜ Process (record { state = s; shadow = now (shadow .entry); output = now (output .entry); spectra = now (spectra .entry); powers = now (powers .entry) }) (now (near .entry)) (now (far .entry)) (now (out .entry)) (reportedOf r) (now (shadow .exit)) (now (output .exit)) (now (spectra .exit)) (now (powers .exit)) (now (out .exit)) ⌝ }
 {
     let refusal = process_refusal(
         s,
         shadow.len(),
         output.len(),
         spectra.len(),
+        powers.len(),
         near.len(),
         far.len(),
         out.len(),
@@ -200,6 +214,7 @@ pub fn process_unreported(
         shadow,
         output,
         spectra,
+        powers,
         near,
         far,
         out,
@@ -230,13 +245,14 @@ pub fn process(
     shadow: &mut [f64],
     output: &mut [f64],
     spectra: &mut [f64],
+    powers: &mut [f64],
     near: &[f32],
     far: &[f32],
     out: &mut [f32],
 ) -> Answer
-    ensures { λ r. ⌜ Process (record { state = s; shadow = now (shadow .entry); output = now (output .entry); spectra = now (spectra .entry) }) (now (near .entry)) (now (far .entry)) (now (out .entry)) r (now (shadow .exit)) (now (output .exit)) (now (spectra .exit)) (now (out .exit)) ⌝ }
+    ensures { λ r. ⌜ Process (record { state = s; shadow = now (shadow .entry); output = now (output .entry); spectra = now (spectra .entry); powers = now (powers .entry) }) (now (near .entry)) (now (far .entry)) (now (out .entry)) r (now (shadow .exit)) (now (output .exit)) (now (spectra .exit)) (now (powers .exit)) (now (out .exit)) ⌝ }
 {
-    answer_of(process_unreported(s, shadow, output, spectra, near, far, out))
+    answer_of(process_unreported(s, shadow, output, spectra, powers, near, far, out))
 }
 
 // A flush over the state taken apart. Refused, it changes nothing.
@@ -254,10 +270,11 @@ fn flush_lent(
     shadow: &mut [f64],
     output: &mut [f64],
     spectra: &mut [f64],
+    powers: &mut [f64],
     out: &mut [f32],
 ) -> Framed
-    requires { ⌜ refusal ≡ flushRefusal (wholeOf start (now «near_carry») (now «far_carry») (now «far_window») (now means) (suppressorOf (now echo) (now err) (now gain) (now window))) (length (now shadow)) (length (now output)) (length (now spectra)) (length (now out)) ⌝ }
-    ensures { λ r. ⌜ record { answer = answerOf refusal (r .delivered) (wholeOf (r .rest) (now («near_carry» .entry)) (now («far_carry» .entry)) (now («far_window» .exit)) (now (means .exit)) (suppressorOf (now (echo .exit)) (now (err .exit)) (now (gain .exit)) (now (window .exit)))) (r .last); shadow = now (shadow .exit); output = now (output .exit); spectra = now (spectra .exit); out = now (out .exit) } ≡ flushOf (engineOf start (now («near_carry» .entry)) (now («far_carry» .entry)) (now («far_window» .entry)) (now (means .entry)) (suppressorOf (now (echo .entry)) (now (err .entry)) (now (gain .entry)) (now (window .entry))) (now (shadow .entry)) (now (output .entry)) (now (spectra .entry))) (now (out .entry)) ⌝ }
+    requires { ⌜ refusal ≡ flushRefusal (wholeOf start (now «near_carry») (now «far_carry») (now «far_window») (now means) (suppressorOf (now echo) (now err) (now gain) (now window))) (length (now shadow)) (length (now output)) (length (now spectra)) (length (now powers)) (length (now out)) ⌝ }
+    ensures { λ r. ⌜ record { answer = answerOf refusal (r .delivered) (wholeOf (r .rest) (now («near_carry» .entry)) (now («far_carry» .entry)) (now («far_window» .exit)) (now (means .exit)) (suppressorOf (now (echo .exit)) (now (err .exit)) (now (gain .exit)) (now (window .exit)))) (r .last); shadow = now (shadow .exit); output = now (output .exit); spectra = now (spectra .exit); powers = now (powers .exit); out = now (out .exit) } ≡ flushOf (engineOf start (now («near_carry» .entry)) (now («far_carry» .entry)) (now («far_window» .entry)) (now (means .entry)) (suppressorOf (now (echo .entry)) (now (err .entry)) (now (gain .entry)) (now (window .entry))) (now (shadow .entry)) (now (output .entry)) (now (spectra .entry)) (now (powers .entry))) (now (out .entry)) ⌝ }
 {
     if refusal != 0 {
         return stay(start);
@@ -275,6 +292,7 @@ fn flush_lent(
         shadow,
         output,
         spectra,
+        powers,
         out,
     )
 }
@@ -285,11 +303,19 @@ pub fn flush_unreported(
     shadow: &mut [f64],
     output: &mut [f64],
     spectra: &mut [f64],
+    powers: &mut [f64],
     out: &mut [f32],
 ) -> Unreported
-    ensures { λ r. ⌜ Flush (record { state = s; shadow = now (shadow .entry); output = now (output .entry); spectra = now (spectra .entry) }) (now (out .entry)) (reportedOf r) (now (shadow .exit)) (now (output .exit)) (now (spectra .exit)) (now (out .exit)) ⌝ }
+    ensures { λ r. ⌜ Flush (record { state = s; shadow = now (shadow .entry); output = now (output .entry); spectra = now (spectra .entry); powers = now (powers .entry) }) (now (out .entry)) (reportedOf r) (now (shadow .exit)) (now (output .exit)) (now (spectra .exit)) (now (powers .exit)) (now (out .exit)) ⌝ }
 {
-    let refusal = flush_refusal(s, shadow.len(), output.len(), spectra.len(), out.len());
+    let refusal = flush_refusal(
+        s,
+        shadow.len(),
+        output.len(),
+        spectra.len(),
+        powers.len(),
+        out.len(),
+    );
     let near_carry = s.near_carry;
     let far_carry = s.far_carry;
     let mut far_window = s.far.window;
@@ -312,6 +338,7 @@ pub fn flush_unreported(
         shadow,
         output,
         spectra,
+        powers,
         out,
     );
     let state = whole(
@@ -340,9 +367,10 @@ pub fn flush(
     shadow: &mut [f64],
     output: &mut [f64],
     spectra: &mut [f64],
+    powers: &mut [f64],
     out: &mut [f32],
 ) -> Answer
-    ensures { λ r. ⌜ Flush (record { state = s; shadow = now (shadow .entry); output = now (output .entry); spectra = now (spectra .entry) }) (now (out .entry)) r (now (shadow .exit)) (now (output .exit)) (now (spectra .exit)) (now (out .exit)) ⌝ }
+    ensures { λ r. ⌜ Flush (record { state = s; shadow = now (shadow .entry); output = now (output .entry); spectra = now (spectra .entry); powers = now (powers .entry) }) (now (out .entry)) r (now (shadow .exit)) (now (output .exit)) (now (spectra .exit)) (now (powers .exit)) (now (out .exit)) ⌝ }
 {
-    answer_of(flush_unreported(s, shadow, output, spectra, out))
+    answer_of(flush_unreported(s, shadow, output, spectra, powers, out))
 }

@@ -14,15 +14,16 @@ flush-lent-spec =
     tie.close
     (tie.spec
     (λ c κs. search needs)
-    (λ c. rw (c .stay .ensures, ← c .before .before .before .before .before .before .pre) (pick-no _ _ _ (ne-eqb _ _ (c .before .if1 .taken)) refl))
-    (λ c κs. let taken = c .before .before .before .before .before .before .before .before .before .before in
-    let z = accepted-flush _ _ _ _ _ (sym (taken .before .before .before .before .before .pre) ∙ taken .if1 .left) in
-    (z .state .ranged, ((z .state .sizes .shadow, z .state .sizes .output, z .state .sizes .spectra), z .room)))
+    (λ c. rw (c .stay .ensures, ← c .before .before .before .before .before .before .before .pre) (pick-no _ _ _ (ne-eqb _ _ (c .before .if1 .taken)) refl))
+    (λ c κs. let taken = c .before .before .before .before .before .before .before .before .before .before .before in
+    let z = accepted-flush _ _ _ _ _ _ (sym (taken .before .before .before .before .before .before .pre) ∙ taken .if1 .left) in
+    (z .state .ranged, ((z .state .sizes .shadow, z .state .sizes .output, z .state .sizes .spectra, z .state .sizes .powers), z .room)))
     (λ c. search needs)
     (λ c. search needs)
     (λ c. search needs)
     (λ c. search needs)
-    (λ c. let r = c .before .before .before .before .before .before .before .before .flush-block .ensures in
-    let taken = c .before .before .before .before .before .before .before .before .before .before .before .before .before .before .before .before .before .before .before in
-    rw (← taken .before .before .before .before .before .pre) (pick-yes _ _ _ (eq-eqb _ _ (taken .if1 .left))
+    (λ c. search needs)
+    (λ c. let r = c .before .before .before .before .before .before .before .before .before .before .flush-block .ensures in
+    let taken = c .before .before .before .before .before .before .before .before .before .before .before .before .before .before .before .before .before .before .before .before .before .before in
+    rw (← taken .before .before .before .before .before .before .pre) (pick-yes _ _ _ (eq-eqb _ _ (taken .if1 .left))
     (served-is _ _ _ _ _ _ (r .0) (r .1 .0) (r .1 .1) _ (rw (taken .if1 .left))))))

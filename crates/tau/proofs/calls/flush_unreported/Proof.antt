@@ -8,11 +8,12 @@ flush-unreported-spec =
     (tie.spec
     (λ c κs. search needs)
     (λ c κs. search needs)
-    (λ c κs. let apart = c .before .before .before .before .before .before .before .before .before .before .before .before in rw (apart .rest-of .ensures) (apart .before .before .before .before .before .before .before .before .before .flush-refusal .ensures))
+    (λ c κs. let apart = c .before .before .before .before .before .before .before .before .before .before .before .before .before in rw (apart .rest-of .ensures) (apart .before .before .before .before .before .before .before .before .before .flush-refusal .ensures))
     (λ c κs. search needs)
     (λ c. search needs)
     (λ c. search needs)
     (λ c. search needs)
     (λ c. search needs)
-    (λ c. let lent = c .before .before .before .before .before .before .before .before .before in
-    rw (c .whole .ensures) (rw (lent .before .before .before .before .before .before .before .before .before .before .before .before .before .rest-of .ensures) at (lent .flush-lent .ensures))))
+    (λ c. search needs)
+    (λ c. let lent = c .before .before .before .before .before .before .before .before .before .before .before in
+    rw (c .whole .ensures) (rw (lent .before .before .before .before .before .before .before .before .before .before .before .before .before .before .rest-of .ensures) at (lent .flush-lent .ensures))))
