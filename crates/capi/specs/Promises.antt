@@ -1,5 +1,5 @@
 -- What `process` and `flush` of Tau promise a host: what each is given, then its answer as numbers, then what each lent buffer holds
--- after: shadow, output, spectra, out. What reading a record promises: the bytes, then the answer. And what the kind of a narrowing is. Every
+-- after: shadow, output, spectra, powers, out. What reading a record promises: the bytes, then the answer. And what the kind of a narrowing is. Every
 -- other function here has the promise of the function below it, by its name there. The contracts cite these names, and crate promises proves
 -- that each admits one answer (Answers).
 use mathlib.Core.Path.{_≡_}
@@ -15,13 +15,13 @@ use Rattle.capi.specs.Tau.{hostedOf}
 use Rattle.capi.specs.Record.{recordReadOf}
 
 -- of near, far and out
-abbrev pub TauProcess : Engine → List Float → List Float → List Float → TauAnswer → List Float → List Float → List Float → List Float → Type 0
-TauProcess e near far out r shadowAfter outputAfter spectraAfter outAfter =
-    record { answer = r; shadow = shadowAfter; output = outputAfter; spectra = spectraAfter; out = outAfter } ≡ hostedOf (processOf e near far out)
+abbrev pub TauProcess : Engine → List Float → List Float → List Float → TauAnswer → List Float → List Float → List Float → List Float → List Float → Type 0
+TauProcess e near far out r shadowAfter outputAfter spectraAfter powersAfter outAfter =
+    record { answer = r; shadow = shadowAfter; output = outputAfter; spectra = spectraAfter; powers = powersAfter; out = outAfter } ≡ hostedOf (processOf e near far out)
 
-abbrev pub TauFlush : Engine → List Float → TauAnswer → List Float → List Float → List Float → List Float → Type 0
-TauFlush e out r shadowAfter outputAfter spectraAfter outAfter =
-    record { answer = r; shadow = shadowAfter; output = outputAfter; spectra = spectraAfter; out = outAfter } ≡ hostedOf (flushOf e out)
+abbrev pub TauFlush : Engine → List Float → TauAnswer → List Float → List Float → List Float → List Float → List Float → Type 0
+TauFlush e out r shadowAfter outputAfter spectraAfter powersAfter outAfter =
+    record { answer = r; shadow = shadowAfter; output = outputAfter; spectra = spectraAfter; powers = powersAfter; out = outAfter } ≡ hostedOf (flushOf e out)
 
 -- the kind of a narrowing by its number
 abbrev pub NarrowKind : Float → ℕ → Type 0

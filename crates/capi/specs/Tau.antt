@@ -1,4 +1,4 @@
--- What process and flush of Tau leave for a host: the answer as numbers alone, which cross to C, the three lent buffers and the output
+-- What process and flush of Tau leave for a host: the answer as numbers alone, which cross to C, the four lent buffers and the output
 -- buffer. Definitions only.
 use mathlib.Core.List.{List}
 use lib.Ieee.{Float}
@@ -28,7 +28,8 @@ pub record Hosted : Type 0 where
   pub shadow : List Float
   pub output : List Float
   pub spectra : List Float
+  pub powers : List Float
   pub out : List Float
 
 abbrev pub hostedOf : Called → Hosted
-hostedOf c = record { answer = numbersOf (c .answer); shadow = c .shadow; output = c .output; spectra = c .spectra; out = c .out }
+hostedOf c = record { answer = numbersOf (c .answer); shadow = c .shadow; output = c .output; spectra = c .spectra; powers = c .powers; out = c .out }

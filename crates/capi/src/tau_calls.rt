@@ -61,10 +61,11 @@ pub extern "C" fn aspeyruni_tau_create(
     shadow: &mut [f64],
     output: &mut [f64],
     spectra: &mut [f64],
+    powers: &mut [f64],
 ) -> Started
-    ensures { λ r. ⌜ Create partitions suppress (now (shadow .entry)) (now (output .entry)) (now (spectra .entry)) r (now (shadow .exit)) (now (output .exit)) (now (spectra .exit)) ⌝ }
+    ensures { λ r. ⌜ Create partitions suppress (now (shadow .entry)) (now (output .entry)) (now (spectra .entry)) (now (powers .entry)) r (now (shadow .exit)) (now (output .exit)) (now (spectra .exit)) (now (powers .exit)) ⌝ }
 {
-    tau::create(partitions, suppress, shadow, output, spectra)
+    tau::create(partitions, suppress, shadow, output, spectra, powers)
 }
 
 #[no_mangle]
@@ -73,13 +74,14 @@ pub extern "C" fn aspeyruni_tau_process(
     shadow: &mut [f64],
     output: &mut [f64],
     spectra: &mut [f64],
+    powers: &mut [f64],
     near: &[f32],
     far: &[f32],
     out: &mut [f32],
 ) -> TauAnswer
-    ensures { λ r. ⌜ TauProcess (record { state = s; shadow = now (shadow .entry); output = now (output .entry); spectra = now (spectra .entry) }) (now (near .entry)) (now (far .entry)) (now (out .entry)) r (now (shadow .exit)) (now (output .exit)) (now (spectra .exit)) (now (out .exit)) ⌝ }
+    ensures { λ r. ⌜ TauProcess (record { state = s; shadow = now (shadow .entry); output = now (output .entry); spectra = now (spectra .entry); powers = now (powers .entry) }) (now (near .entry)) (now (far .entry)) (now (out .entry)) r (now (shadow .exit)) (now (output .exit)) (now (spectra .exit)) (now (powers .exit)) (now (out .exit)) ⌝ }
 {
-    numbers_of(tau::process_unreported(s, shadow, output, spectra, near, far, out))
+    numbers_of(tau::process_unreported(s, shadow, output, spectra, powers, near, far, out))
 }
 
 #[no_mangle]
@@ -88,11 +90,12 @@ pub extern "C" fn aspeyruni_tau_flush(
     shadow: &mut [f64],
     output: &mut [f64],
     spectra: &mut [f64],
+    powers: &mut [f64],
     out: &mut [f32],
 ) -> TauAnswer
-    ensures { λ r. ⌜ TauFlush (record { state = s; shadow = now (shadow .entry); output = now (output .entry); spectra = now (spectra .entry) }) (now (out .entry)) r (now (shadow .exit)) (now (output .exit)) (now (spectra .exit)) (now (out .exit)) ⌝ }
+    ensures { λ r. ⌜ TauFlush (record { state = s; shadow = now (shadow .entry); output = now (output .entry); spectra = now (spectra .entry); powers = now (powers .entry) }) (now (out .entry)) r (now (shadow .exit)) (now (output .exit)) (now (spectra .exit)) (now (powers .exit)) (now (out .exit)) ⌝ }
 {
-    numbers_of(tau::flush_unreported(s, shadow, output, spectra, out))
+    numbers_of(tau::flush_unreported(s, shadow, output, spectra, powers, out))
 }
 
 #[no_mangle]
@@ -101,8 +104,9 @@ pub extern "C" fn aspeyruni_tau_reset(
     shadow: &mut [f64],
     output: &mut [f64],
     spectra: &mut [f64],
+    powers: &mut [f64],
 ) -> Started
-    ensures { λ r. ⌜ Reset (record { state = s; shadow = now (shadow .entry); output = now (output .entry); spectra = now (spectra .entry) }) r (now (shadow .exit)) (now (output .exit)) (now (spectra .exit)) ⌝ }
+    ensures { λ r. ⌜ Reset (record { state = s; shadow = now (shadow .entry); output = now (output .entry); spectra = now (spectra .entry); powers = now (powers .entry) }) r (now (shadow .exit)) (now (output .exit)) (now (spectra .exit)) (now (powers .exit)) ⌝ }
 {
-    tau::reset(s, shadow, output, spectra)
+    tau::reset(s, shadow, output, spectra, powers)
 }

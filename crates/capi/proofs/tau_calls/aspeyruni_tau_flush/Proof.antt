@@ -15,4 +15,5 @@ aspeyruni-tau-flush-spec =
     (λ c. search needs)
     (λ c. search needs)
     (λ c. search needs)
-    (λ c. rw (c .numbers-of .ensures) (ap hostedOf (c .before .before .before .before .before .before .before .before .before .flush-unreported .ensures))))
+    (λ c. search needs)
+    (λ c. rw (c .numbers-of .ensures) (ap hostedOf (c .before .before .before .before .before .before .before .before .before .before .before .flush-unreported .ensures))))

@@ -15,4 +15,5 @@ aspeyruni-tau-process-spec =
     (λ c. search needs)
     (λ c. search needs)
     (λ c. search needs)
-    (λ c. rw (c .numbers-of .ensures) (ap hostedOf (c .before .before .before .before .before .before .before .before .before .process-unreported .ensures))))
+    (λ c. search needs)
+    (λ c. rw (c .numbers-of .ensures) (ap hostedOf (c .before .before .before .before .before .before .before .before .before .before .before .process-unreported .ensures))))
