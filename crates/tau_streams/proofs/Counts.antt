@@ -45,6 +45,7 @@ carry-intact e ns fs c k a b h =
       shadow = h .shadow;
       output = h .output;
       spectra = h .spectra;
+      powers = h .powers;
       near = a;
       far = b;
     }
@@ -77,13 +78,14 @@ module _ (e : Engine) (near far : List Float) (n : ℕ) (adapt : Bool) where
   unfolding blockOf
   block-intact h =
       let z = lengths-kept (emptied e) far (record { near = near; valid = n; adapt = adapt }) (h .ranged .inring)
-      (record { shadow = h .shadow; output = h .output; spectra = h .spectra }) in
+      (record { shadow = h .shadow; output = h .output; spectra = h .spectra; powers = h .powers }) in
       let p = ap (λ (k : ℕ). 514 * k) (sym block-partitions) in
       record {
         ranged = block-ranged (h .ranged);
         shadow = z .shadow ∙ p;
         output = z .output ∙ p;
         spectra = z .spectra ∙ p;
+        powers = z .powers ∙ ap (λ (k : ℕ). 257 * k) (sym block-partitions);
         near = ap length block-near ∙ h .near;
         far = ap length block-far ∙ h .far;
       }
@@ -135,6 +137,7 @@ begun-good parts flag transfers resets a b =
       shadow = length-replicate (514 * parts) zero64;
       output = length-replicate (514 * parts) zero64;
       spectra = length-replicate (514 * parts) zero64;
+      powers = length-replicate (257 * parts) zero64;
       near = length-replicate 256 zero32;
       far = length-replicate 256 zero32;
     }
@@ -144,21 +147,21 @@ unfolding freshOf
 begun-empty parts flag transfers resets = refl
 
 -- An accepted creation leaves an engine in order, and nothing carried,
-pub created-good : (parts : ℕ) (flag : Bool) (sh ou xs : List Float) → createRefusal parts (length sh) (length ou) (length xs) ≡ 0
-    → Good (begunBy (createOf parts flag sh ou xs))
-created-good parts flag sh ou xs h =
-    let a = accepted-settings parts (length sh) (length ou) (length xs) h in
-    rw (create-began parts flag sh ou xs h) (begun-good parts flag 0 0 (a .some) (a .most))
+pub created-good : (parts : ℕ) (flag : Bool) (sh ou xs ps : List Float) → createRefusal parts (length sh) (length ou) (length xs) (length ps) ≡ 0
+    → Good (begunBy (createOf parts flag sh ou xs ps))
+created-good parts flag sh ou xs ps h =
+    let a = accepted-settings parts (length sh) (length ou) (length xs) (length ps) h in
+    rw (create-began parts flag sh ou xs ps h) (begun-good parts flag 0 0 (a .some) (a .most))
 
-pub created-empty : (parts : ℕ) (flag : Bool) (sh ou xs : List Float) → createRefusal parts (length sh) (length ou) (length xs) ≡ 0
-    → createOf parts flag sh ou xs .answer .state .carried ≡ 0
-created-empty parts flag sh ou xs h = rw (create-began parts flag sh ou xs h) (begun-empty parts flag 0 0)
+pub created-empty : (parts : ℕ) (flag : Bool) (sh ou xs ps : List Float) → createRefusal parts (length sh) (length ou) (length xs) (length ps) ≡ 0
+    → createOf parts flag sh ou xs ps .answer .state .carried ≡ 0
+created-empty parts flag sh ou xs ps h = rw (create-began parts flag sh ou xs ps h) (begun-empty parts flag 0 0)
 
 -- and so does an accepted reset.
 pub reset-good : (e : Engine) → stateNumber e ≡ 0 → Good (begunBy (resetOf e))
 reset-good e h =
     let s = e .state in
-    let a = accepted-state s (length (e .shadow)) (length (e .output)) (length (e .spectra)) h .ranged in
+    let a = accepted-state s (length (e .shadow)) (length (e .output)) (length (e .spectra)) (length (e .powers)) h .ranged in
     rw (reset-began e h) (begun-good (s .partitions) (s .suppress) (s .mic .transfers) (s .mic .«divergence_resets») (a .some) (a .most))
 
 pub reset-empty : (e : Engine) → stateNumber e ≡ 0 → resetOf e .answer .state .carried ≡ 0
@@ -167,12 +170,13 @@ reset-empty e h = let s = e .state in rw (reset-began e h) (begun-empty (s .part
 -- An engine whose state is accepted is in order, with the carries that it has,
 pub state-intact : (e : Engine) → stateNumber e ≡ 0 → Intact (length (e .state .«near_carry»)) (length (e .state .«far_carry»)) e
 state-intact e h =
-    let a = accepted-state (e .state) (length (e .shadow)) (length (e .output)) (length (e .spectra)) h in
+    let a = accepted-state (e .state) (length (e .shadow)) (length (e .output)) (length (e .spectra)) (length (e .powers)) h in
     record {
       ranged = a .ranged;
       shadow = a .sizes .shadow;
       output = a .sizes .output;
       spectra = a .sizes .spectra;
+      powers = a .sizes .powers;
       near = refl;
       far = refl;
     }
@@ -180,8 +184,8 @@ state-intact e h =
 -- and one in order is accepted.
 pub intact-accepted : {n f : ℕ} (e : Engine) → Intact n f e → stateNumber e ≡ 0
 intact-accepted e h =
-    state-accepted (e .state) (length (e .shadow)) (length (e .output)) (length (e .spectra))
-    (record { ranged = h .ranged; sizes = record { shadow = h .shadow; output = h .output; spectra = h .spectra } })
+    state-accepted (e .state) (length (e .shadow)) (length (e .output)) (length (e .spectra)) (length (e .powers))
+    (record { ranged = h .ranged; sizes = record { shadow = h .shadow; output = h .output; spectra = h .spectra; powers = h .powers } })
 
 -- ---- the count of the pairs
 
@@ -269,7 +273,7 @@ served-delivery r n out d room =
 pub process-delivers : (e : Engine) (near far out : List Float) → processNumber e near far out ≡ 0
     → Delivery (pairsOf e near far) (deliversOf (e .state .carried) (length near)) out (processOf e near far out)
 process-delivers e near far out h =
-    let a = accepted-pairs (e .state) (length (e .shadow)) (length (e .output)) (length (e .spectra)) (length near) (length far) (length out) h in
+    let a = accepted-pairs (e .state) (length (e .shadow)) (length (e .output)) (length (e .spectra)) (length (e .powers)) (length near) (length far) (length out) h in
     let n = deliversOf (e .state .carried) (length near) in
     let d = delivers e near far (a .state .ranged) (a .pairs .level) in
     subst (Delivery (pairsOf e near far) n out) (sym (process-ran e near far out h)) (served-delivery (pairsOf e near far) n out d (a .pairs .room))
@@ -277,7 +281,7 @@ process-delivers e near far out h =
 -- and an accepted flush what was carried.
 pub flush-delivers : (e : Engine) (out : List Float) → flushNumber e out ≡ 0 → Delivery (flushedOf e) (e .state .carried) out (flushOf e out)
 flush-delivers e out h =
-    let a = accepted-flush (e .state) (length (e .shadow)) (length (e .output)) (length (e .spectra)) (length out) h in
+    let a = accepted-flush (e .state) (length (e .shadow)) (length (e .output)) (length (e .spectra)) (length (e .powers)) (length out) h in
     let n = e .state .carried in
     let d = flushed-delivers e (a .state .ranged) in
     subst (Delivery (flushedOf e) n out) (sym (flush-ran e out h)) (served-delivery (flushedOf e) n out d (a .room))

@@ -72,9 +72,9 @@ row-accepted {n} {f} e (p ∷ ps) s h r =
     let a = h .each .0 in
     let run = pairsOf e (p .near) (p .far) in
     let z : processNumber e (p .near) (p .far) (p .out) ≡ 0 =
-    process-accepted (e .state) _ _ _ _ _ _
+    process-accepted (e .state) _ _ _ _ _ _ _
     (record {
-      state = record { ranged = s .ranged; sizes = record { shadow = s .shadow; output = s .output; spectra = s .spectra } };
+      state = record { ranged = s .ranged; sizes = record { shadow = s .shadow; output = s .output; spectra = s .spectra; powers = s .powers } };
       pairs = record { level = a .level; few = a .few; room = r .rooms .0 };
     }) in
     let c = carries e (p .near) (p .far) (s .ranged) (a .level) in
@@ -84,8 +84,8 @@ row-accepted {n} {f} e (p ∷ ps) s h r =
 
 -- what the first call of an accepted row could count on
 first-process : (e : Engine) (p : Part) → processNumber e (p .near) (p .far) (p .out) ≡ 0
-    → Process (e .state) (length (e .shadow)) (length (e .output)) (length (e .spectra)) (length (p .near)) (length (p .far)) (length (p .out))
-first-process e p z = accepted-pairs (e .state) _ _ _ _ _ _ z
+    → Process (e .state) (length (e .shadow)) (length (e .output)) (length (e .spectra)) (length (e .powers)) (length (p .near)) (length (p .far)) (length (p .out))
+first-process e p z = accepted-pairs (e .state) _ _ _ _ _ _ _ z
 
 -- A row of accepted calls leaves the state and the buffers, delivers the samples, and last reports the block, of the run over the whole
 -- stream.
@@ -140,7 +140,7 @@ pub cut-call : (e : Engine) (ps : List Part) (out : List Float) → All Level ps
     → processOf e (allNear ps) (allFar ps) out .answer .refusal ≡ 0 → SameCall e ps (processOf e (allNear ps) (allFar ps) out)
 cut-call e ps out l r h =
     let z = sym (process-answers e (allNear ps) (allFar ps) out) ∙ h in
-    let a = accepted-pairs (e .state) (length (e .shadow)) (length (e .output)) (length (e .spectra)) _ _ _ z in
-    let s = state-intact e (state-accepted (e .state) _ _ _ (a .state)) in
+    let a = accepted-pairs (e .state) (length (e .shadow)) (length (e .output)) (length (e .spectra)) (length (e .powers)) _ _ _ z in
+    let s = state-intact e (state-accepted (e .state) _ _ _ _ (a .state)) in
     let t = row-accepted e ps s (parts-fair ps (a .pairs .few) l) r in
     record { accepted = t; run = row-runs e ps t ∙ sym (call-ran e (allNear ps) (allFar ps) out z) }

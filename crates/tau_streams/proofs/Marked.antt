@@ -10,9 +10,9 @@ use Rattle.tau_streams.proofs.Cut.{row-delivers, row-carries}
 
 created-is : (e : Engine) → Created e → Good e × (e .state .carried ≡ 0)
 created-is e c =
-    let h = sym (create-answers (c .parts) (c .flag) (c .shadow) (c .output) (c .spectra)) ∙ c .accepted in
+    let h = sym (create-answers (c .parts) (c .flag) (c .shadow) (c .output) (c .spectra) (c .powers)) ∙ c .accepted in
     rw (c .left)
-    (created-good (c .parts) (c .flag) (c .shadow) (c .output) (c .spectra) h, created-empty (c .parts) (c .flag) (c .shadow) (c .output) (c .spectra) h)
+    (created-good (c .parts) (c .flag) (c .shadow) (c .output) (c .spectra) (c .powers) h, created-empty (c .parts) (c .flag) (c .shadow) (c .output) (c .spectra) (c .powers) h)
 
 pub m12 : M12
 m12 e near far c l =

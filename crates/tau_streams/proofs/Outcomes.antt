@@ -183,12 +183,12 @@ module _ (e : Engine) (near far out : List Float) (h : processNumber e near far 
 
   pub process-none : e .state .carried + length near ≤ 255 → processOf e near far out .answer .report .last ≡ NoneRan
   process-none k =
-      let a = accepted-pairs (e .state) (length (e .shadow)) (length (e .output)) (length (e .spectra)) _ _ _ h in
+      let a = accepted-pairs (e .state) (length (e .shadow)) (length (e .output)) (length (e .spectra)) (length (e .powers)) _ _ _ h in
       reported ∙ pairs-none e near far (a .state .ranged) (a .pairs .level) k
 
   pub process-some : 256 ≤ e .state .carried + length near → processOf e near far out .answer .report .last ≡ NoneRan → ⊥
   process-some k z =
-      let a = accepted-pairs (e .state) (length (e .shadow)) (length (e .output)) (length (e .spectra)) _ _ _ h in
+      let a = accepted-pairs (e .state) (length (e .shadow)) (length (e .output)) (length (e .spectra)) (length (e .powers)) _ _ _ h in
       pairs-some e near far (a .state .ranged) (a .pairs .level) k (sym reported ∙ z)
 
 module _ (e : Engine) (out : List Float) (h : flushNumber e out ≡ 0) where

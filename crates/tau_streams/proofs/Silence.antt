@@ -99,14 +99,14 @@ begun-empty parts flag transfers resets = refl
 
 -- Creation and reset, accepted, leave an engine that has heard no far sound, and nothing waits.
 pub begins-hushed : (e : Engine) → Begins e → Hushed e × (e .state .carried ≡ 0)
-begins-hushed e (created parts flag sh ou xs h q) =
-    let z = sym (create-answers parts flag sh ou xs) ∙ h in
-    let a = accepted-settings parts (length sh) (length ou) (length xs) z in
-    rw (q, create-began parts flag sh ou xs z) (begun-hushed parts flag 0 0 (a .some), begun-empty parts flag 0 0)
+begins-hushed e (created parts flag sh ou xs ps h q) =
+    let z = sym (create-answers parts flag sh ou xs ps) ∙ h in
+    let a = accepted-settings parts (length sh) (length ou) (length xs) (length ps) z in
+    rw (q, create-began parts flag sh ou xs ps z) (begun-hushed parts flag 0 0 (a .some), begun-empty parts flag 0 0)
 begins-hushed e (renewed d h q) =
     let s = d .state in
     let z = sym (reset-answers d) ∙ h in
-    let a = accepted-state s (length (d .shadow)) (length (d .output)) (length (d .spectra)) z .ranged in
+    let a = accepted-state s (length (d .shadow)) (length (d .output)) (length (d .spectra)) (length (d .powers)) z .ranged in
     let t = s .mic .transfers in
     let r = s .mic .«divergence_resets» in
     rw (q, reset-began d z) (begun-hushed (s .partitions) (s .suppress) t r (a .some), begun-empty (s .partitions) (s .suppress) t r)
@@ -296,7 +296,7 @@ pub process-passed : (e : Engine) (near far out : List Float) → processOf e ne
     → Passes e (cleanOf near) (ranBy (processOf e near far out))
 process-passed e near far out a h n f =
     let z = sym (process-answers e near far out) ∙ a in
-    let l = accepted-pairs (e .state) (length (e .shadow)) (length (e .output)) (length (e .spectra)) _ _ _ z .pairs .level in
+    let l = accepted-pairs (e .state) (length (e .shadow)) (length (e .output)) (length (e .spectra)) (length (e .powers)) _ _ _ z .pairs .level in
     subst (Passes e (cleanOf near)) (sym (call-ran e near far out z)) (pairs-passed e near far l h n f)
 
 -- and an accepted flush what waits.
@@ -498,7 +498,7 @@ singer-first e cs p ds n b a g k x y =
     let v = r .engine in
     let i = deliversOf (v .state .carried) n in
     let z = sym (process-answers v (p .near) (p .far) (p .out)) ∙ t .1 .each .0 in
-    let w = accepted-pairs (v .state) (length (v .shadow)) (length (v .output)) (length (v .spectra)) _ _ _ z in
+    let w = accepted-pairs (v .state) (length (v .shadow)) (length (v .output)) (length (v .spectra)) (length (v .powers)) _ _ _ z in
     let q = pairsOf v (p .near) (p .far) .samples in
     let c = ap (λ (m : Run). m .samples) (call-ran v (p .near) (p .far) (p .out) z) in
     let rest = callsOf (madeBy v (feed p) .engine) ds .run .samples in
@@ -555,7 +555,7 @@ filled-few e cs p ds n a k =
     let r = callsOf e cs .run in
     let v = r .engine in
     let z = sym (process-answers v (p .near) (p .far) (p .out)) ∙ a in
-    let w = accepted-pairs (v .state) (length (v .shadow)) (length (v .output)) (length (v .spectra)) _ _ _ z in
+    let w = accepted-pairs (v .state) (length (v .shadow)) (length (v .output)) (length (v .spectra)) (length (v .powers)) _ _ _ z in
     let q = processOf v (p .near) (p .far) (p .out) in
     let rest = callsOf (madeBy v (feed p) .engine) ds .run .samples in
     let c = ap (λ (m : Run). length (m .samples)) (call-ran v (p .near) (p .far) (p .out) z) in

@@ -57,7 +57,7 @@ process-uncut : (t : Since) (p : Part) → processNumber (t .run .engine) (p .ne
     → Uncut (onward t (t .near ++ p .near) (t .far ++ p .far) (ranBy (processOf (t .run .engine) (p .near) (p .far) (p .out))))
 process-uncut t p z h =
     let e = t .run .engine in
-    let level = accepted-pairs (e .state) (length (e .shadow)) (length (e .output)) (length (e .spectra)) _ _ _ z .pairs .level in
+    let level = accepted-pairs (e .state) (length (e .shadow)) (length (e .output)) (length (e .spectra)) (length (e .powers)) _ _ _ z .pairs .level in
     record {
       good = h .good;
       empty = h .empty;
@@ -105,10 +105,10 @@ calls-uncut t [] h = h
 calls-uncut t (c ∷ cs) h = calls-uncut (afterCall t c) cs (call-uncut t c h)
 
 -- So it is after any calls from an accepted creation on,
-pub created-calls : (parts : ℕ) (flag : Bool) (sh ou xs : List Float) (cs : List Call) → createRefusal parts (length sh) (length ou) (length xs) ≡ 0
-    → Uncut (afterCalls (anew (begunBy (createOf parts flag sh ou xs))) cs)
-created-calls parts flag sh ou xs cs h =
-    calls-uncut _ cs (begun-uncut (begunBy (createOf parts flag sh ou xs)) (created-good parts flag sh ou xs h) (created-empty parts flag sh ou xs h))
+pub created-calls : (parts : ℕ) (flag : Bool) (sh ou xs ps : List Float) (cs : List Call) → createRefusal parts (length sh) (length ou) (length xs) (length ps) ≡ 0
+    → Uncut (afterCalls (anew (begunBy (createOf parts flag sh ou xs ps))) cs)
+created-calls parts flag sh ou xs ps cs h =
+    calls-uncut _ cs (begun-uncut (begunBy (createOf parts flag sh ou xs ps)) (created-good parts flag sh ou xs ps h) (created-empty parts flag sh ou xs ps h))
 
 -- and from an accepted reset on, whatever the state and the buffers were.
 pub reset-calls : (e : Engine) (cs : List Call) → stateNumber e ≡ 0 → Uncut (afterCalls (anew (begunBy (resetOf e))) cs)

@@ -17,8 +17,9 @@ pub record Created (e : Engine) : Type 0 where
   pub shadow : List Float
   pub output : List Float
   pub spectra : List Float
-  pub accepted : createOf parts flag shadow output spectra .answer .refusal ≡ 0
-  pub left : e ≡ begunBy (createOf parts flag shadow output spectra)
+  pub powers : List Float
+  pub accepted : createOf parts flag shadow output spectra powers .answer .refusal ≡ 0
+  pub left : e ≡ begunBy (createOf parts flag shadow output spectra powers)
 
 -- how many samples a stream of pairs delivers, and a flush after it
 abbrev pub gives : Engine → List Float → List Float → ℕ

@@ -38,7 +38,7 @@ pub record Hushed (e : Engine) : Type 0 where
 
 -- an engine as an accepted creation, or an accepted reset, leaves it
 pub data Begins (e : Engine) : Type 0 where
-  created : (parts : ℕ) (flag : Bool) (sh ou xs : List Float) → createOf parts flag sh ou xs .answer .refusal ≡ 0 → e ≡ begunBy (createOf parts flag sh ou xs) → Begins e
+  created : (parts : ℕ) (flag : Bool) (sh ou xs ps : List Float) → createOf parts flag sh ou xs ps .answer .refusal ≡ 0 → e ≡ begunBy (createOf parts flag sh ou xs ps) → Begins e
   renewed : (d : Engine) → resetOf d .answer .refusal ≡ 0 → e ≡ begunBy (resetOf d) → Begins e
 
 -- ---- what passes

@@ -24,6 +24,7 @@ pub record Intact (n f : ℕ) (e : Engine) : Type 0 where
   pub shadow : length (e .shadow) ≡ 514 * e .state .partitions
   pub output : length (e .output) ≡ 514 * e .state .partitions
   pub spectra : length (e .spectra) ≡ 514 * e .state .partitions
+  pub powers : length (e .powers) ≡ 257 * e .state .partitions
   pub near : length (e .state .«near_carry») ≡ n
   pub far : length (e .state .«far_carry») ≡ f
 
@@ -33,12 +34,12 @@ Good e = Intact 256 256 e
 
 -- ---- calls
 
--- the state and the three buffers that creation or reset leaves, and that process or flush leaves
+-- the state and the four buffers that creation or reset leaves, and that process or flush leaves
 abbrev pub begunBy : Begun → Engine
-begunBy b = record { state = b .answer .state; shadow = b .shadow; output = b .output; spectra = b .spectra }
+begunBy b = record { state = b .answer .state; shadow = b .shadow; output = b .output; spectra = b .spectra; powers = b .powers }
 
 abbrev pub leftBy : Called → Engine
-leftBy c = record { state = c .answer .state; shadow = c .shadow; output = c .output; spectra = c .spectra }
+leftBy c = record { state = c .answer .state; shadow = c .shadow; output = c .output; spectra = c .spectra; powers = c .powers }
 
 -- the samples that a call delivered
 abbrev pub deliveredBy : Called → List Float
@@ -88,7 +89,7 @@ cleanOf l = map finiteOrZero l
 
 -- the engine with another carry, of which n pairs wait; and a run after which it has it
 abbrev pub withCarry : Engine → List Float → List Float → ℕ → Engine
-withCarry e near far n = record { state = carrying (e .state) near far n; shadow = e .shadow; output = e .output; spectra = e .spectra }
+withCarry e near far n = record { state = carrying (e .state) near far n; shadow = e .shadow; output = e .output; spectra = e .spectra; powers = e .powers }
 
 abbrev pub withCarryAfter : Run → List Float → List Float → ℕ → Run
 withCarryAfter r near far n = record { engine = withCarry (r .engine) near far n; samples = r .samples; last = r .last }
