@@ -38,7 +38,7 @@ carry-ranged : (s : TauCanceller) (ns fs : List Float) (c : ℕ) → c ≤ 255 �
 carry-ranged s ns fs c k h =
     record { some = h .some; most = h .most; inring = h .inring; waiting = k; streak = h .streak; count = h .count }
 
-carry-intact : {n f : ℕ} (e : Engine) (ns fs : List Float) (c : ℕ) → c ≤ 255 → length ns ≡ n → length fs ≡ f → Intact n f e → Intact n f (withCarry e ns fs c)
+pub carry-intact : {n f : ℕ} (e : Engine) (ns fs : List Float) (c : ℕ) → c ≤ 255 → length ns ≡ n → length fs ≡ f → Intact n f e → Intact n f (withCarry e ns fs c)
 carry-intact e ns fs c k a b h =
     record {
       ranged = carry-ranged (e .state) ns fs c k (h .ranged);
@@ -100,7 +100,7 @@ module _ (e : Engine) (near far : List Float) (n : ℕ) (adapt : Bool) where
 -- ---- what is kept
 
 -- the carry after a pair, c pairs in it
-fill-intact : {n f : ℕ} (e : Engine) (x y : Float) (c : ℕ) → c ≤ 255 → Intact n f e
+pub fill-intact : {n f : ℕ} (e : Engine) (x y : Float) (c : ℕ) → c ≤ 255 → Intact n f e
     → Intact n f (withCarry e (fillOf e x y .state .«near_carry») (fillOf e x y .state .«far_carry») c)
 fill-intact e x y c k h =
     carry-intact e _ _ c k (length-set (e .state .«near_carry») _ _ ∙ h .near) (length-set (e .state .«far_carry») _ _ ∙ h .far) h

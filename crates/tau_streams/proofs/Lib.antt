@@ -5,3 +5,4 @@ pub mod Blocks
 pub mod Since
 pub mod Marked
 pub mod Silence
+pub mod Powers

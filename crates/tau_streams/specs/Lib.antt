@@ -1,3 +1,4 @@
 pub mod Stream
 pub mod Marked
 pub mod Silence
+pub mod Powers
