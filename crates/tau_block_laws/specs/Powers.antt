@@ -22,3 +22,7 @@ squaredBlock e far b =
       farPower = farPowerTo (heard .spectra) (e .state .partitions);
     })
     b
+
+-- the engine with other powers
+abbrev pub withPowers : Engine → List Float → Engine
+withPowers e ps = record { state = e .state; shadow = e .shadow; output = e .output; spectra = e .spectra; powers = ps }

@@ -1,6 +1,6 @@
 -- Kept powers that are true (K10). Assumes nothing.
 --     fresh-true      where spectra and powers are all +0.0
---     heard-true      a block, which writes one slot of both, keeps them so
+--     heard-slot      a slot after a block, which writes one slot of both
 --     kept-sum        and then the sum of the kept powers is that of the spectra's squares
 use mathlib.Core.Path.{_≡_, refl, sym, ap, subst, _∙_}
 use mathlib.Core.Bool.{Bool, true, false}
@@ -20,7 +20,7 @@ use Rattle.laws.specs.Readings.{iter-cong, over-cong}
 use Rattle.laws.specs.Tables.{length-table, table-at}
 use Rattle.tau_state.specs.Constants.{zero64}
 use Rattle.tau_spectra.specs.Bins.{powerAt}
-use Rattle.tau_spectra.specs.Powers.{powersOf, keptPowerTo, farPowerTo, TruePowers}
+use Rattle.tau_spectra.specs.Powers.{powersOf, keptPowerTo, farPowerTo, TrueSlot, TruePowers}
 
 pub powers-257 : (spectrum : List Float) → length (powersOf spectrum) ≡ 257
 unfolding powersOf
@@ -55,30 +55,28 @@ module _ (n head : ℕ) (spectra powers spectrum : List Float) (b : head < n) (e
   newPowers = withPart 257 head powers (powersOf spectrum)
 
   -- the slot that is written
-  there : part 257 head newPowers ≡ powersOf (part 514 head newSpectra)
+  there : TrueSlot head newSpectra newPowers
   there =
       part-with 257 head powers (powersOf spectrum) nan (omega arith) (powers-257 spectrum)
       ∙ ap powersOf (sym (part-with 514 head spectra spectrum nan (omega arith) es))
 
   -- any other
-  beside : TruePowers n spectra powers → (p : ℕ) → p < n → (p < head) ⊎ (head < p) → part 257 p newPowers ≡ powersOf (part 514 p newSpectra)
-  beside t p l o =
-      part-beside 257 head powers (powersOf spectrum) nan (omega arith) (powers-257 spectrum) p (omega arith) (sides 257 o)
-      ∙ t .each p l
-      ∙ ap powersOf (sym (part-beside 514 head spectra spectrum nan (omega arith) es p (omega arith) (sides 514 o)))
+  beside : (slot : ℕ) → slot < n → (slot < head) ⊎ (head < slot) → TrueSlot slot spectra powers → TrueSlot slot newSpectra newPowers
+  beside slot l o t =
+      part-beside 257 head powers (powersOf spectrum) nan (omega arith) (powers-257 spectrum) slot (omega arith) (sides 257 o)
+      ∙ t
+      ∙ ap powersOf (sym (part-beside 514 head spectra spectrum nan (omega arith) es slot (omega arith) (sides 514 o)))
     where
-      sides : (m : ℕ) → (p < head) ⊎ (head < p) → (m * p + m ≤ m * head) ⊎ (m * head + m ≤ m * p)
-      sides m (inl h) = inl (next-below m p head h)
-      sides m (inr h) = inr (next-below m head p h)
+      sides : (m : ℕ) → (slot < head) ⊎ (head < slot) → (m * slot + m ≤ m * head) ⊎ (m * head + m ≤ m * slot)
+      sides m (inl h) = inl (next-below m slot head h)
+      sides m (inr h) = inr (next-below m head slot h)
 
-  pub heard-true : TruePowers n spectra powers → TruePowers n newSpectra newPowers
-  heard-true t = record { each = λ p l. go p l (eqb p head) refl }
+  pub heard-slot : (slot : ℕ) → slot < n → ((slot ≡ head → ⊥) → TrueSlot slot spectra powers) → TrueSlot slot newSpectra newPowers
+  heard-slot slot l t = go (eqb slot head) refl
     where
-      go : (p : ℕ) → p < n → (d : Bool) → eqb p head ≡ d → part 257 p newPowers ≡ powersOf (part 514 p newSpectra)
-      go p l true d =
-          let o : p ≡ head = eqb-true p head d in
-          ap (λ (q : ℕ). part 257 q newPowers) o ∙ there ∙ ap (λ (q : ℕ). powersOf (part 514 q newSpectra)) (sym o)
-      go p l false d = beside t p l (apart head p (eqb-false p head d))
+      go : (d : Bool) → eqb slot head ≡ d → TrueSlot slot newSpectra newPowers
+      go true d = subst (λ (q : ℕ). TrueSlot q newSpectra newPowers) (sym (eqb-true slot head d)) there
+      go false d = let other = eqb-false slot head d in beside slot l (apart head slot other) (t other)
 
 -- ---- creation and reset
 

@@ -23,6 +23,9 @@ keptPowerTo powers n = iter (λ slot sum. over 257 (λ k a. add binary64 a (getD
 unfoldable pub farPowerTo : List Float → ℕ → List Float
 farPowerTo spectra n = iter (λ slot sum. over 257 (λ k a. add binary64 a (powerAt (part 514 slot spectra) k)) sum) (replicate 257 zero64) n
 
--- "each kept number is the one worked out from its bin", in the first n slots
+-- "each kept number is the one worked out from its bin", in a slot, and in the first n
+abbrev pub TrueSlot : ℕ → List Float → List Float → Type 0
+TrueSlot slot spectra powers = part 257 slot powers ≡ powersOf (part 514 slot spectra)
+
 pub record TruePowers (n : ℕ) (spectra powers : List Float) : Type 0 where
-  pub each : (slot : ℕ) → slot < n → part 257 slot powers ≡ powersOf (part 514 slot spectra)
+  pub each : (slot : ℕ) → slot < n → TrueSlot slot spectra powers

@@ -52,7 +52,7 @@ carry-intact e ns fs c k a b h =
 
 module _ (e : Engine) (near far : List Float) (n : ℕ) (adapt : Bool) where
   -- a block keeps the partitions and hands the carries through,
-  block-partitions : blockOf e near far n adapt .engine .state .partitions ≡ e .state .partitions
+  pub block-partitions : blockOf e near far n adapt .engine .state .partitions ≡ e .state .partitions
   unfolding blockOf runBlock
   block-partitions = refl
 
@@ -74,7 +74,7 @@ module _ (e : Engine) (near far : List Float) (n : ℕ) (adapt : Bool) where
   unfolding blockOf
   block-ranged h = ranges-kept (emptied e) far (record { near = near; valid = n; adapt = adapt }) h
 
-  block-intact : {k l : ℕ} → Intact k l (emptied e) → Intact k l (blockOf e near far n adapt .engine)
+  pub block-intact : {k l : ℕ} → Intact k l (emptied e) → Intact k l (blockOf e near far n adapt .engine)
   unfolding blockOf
   block-intact h =
       let z = lengths-kept (emptied e) far (record { near = near; valid = n; adapt = adapt }) (h .ranged .inring)

@@ -1,18 +1,19 @@
 -- Kept powers through the calls (K10). Assumes nothing.
 --     created-true, reset-true     creation and an accepted reset leave true powers
 --     call-true, calls-true        every call, accepted or refused, keeps them true, and so does a row of calls
+--     blocks-true                  as many blocks as there are partitions leave them true, whatever they were
 --     process-own, flush-own       the calls by a rule are, by `runBlock`, the calls
 --     process-squared, flush-squared     and by the rule that squares the spectra they are the same for an engine with true powers
-use mathlib.Core.Path.{_≡_, refl, sym, ap, _∙_}
+use mathlib.Core.Path.{_≡_, refl, sym, ap, subst, _∙_}
 use mathlib.Core.Bool.{Bool, true, false}
 use mathlib.Core.List.{List, [], _∷_}
-use Prim.Native.Nat.{ℕ, _+_}
-use native.Mathlib.Nat.{not-suc-le-zero}
+use Prim.Native.Nat.{ℕ, zero, suc, _+_}
+use native.Mathlib.Nat.{not-suc-le-zero, zero-add, add-suc, suc-add}
 use native.Mathlib.Omega.{arith}
 use borrow.Author.Tests.{eqb-true, eqb-false}
 use lib.Dec.{eqb}
 use lib.Ieee.{Float}
-use lib.ListN.{length}
+use lib.ListN.{length, take, drop}
 use Rattle.laws.specs.Choice.{pick, pick-if}
 use Rattle.tau_fresh.specs.Fresh.{freshOf, emptyOf}
 use Rattle.tau_fresh.proofs.Accepted.{accepted-pairs, accepted-flush, state-accepted}
@@ -24,10 +25,10 @@ use Rattle.tau_block_laws.proofs.Powers as block
 use Rattle.tau_frame.specs.Pairs.{Run, emptied, fillOf, blockOf, pairOf, pairsOf, flushedOf}
 use Rattle.tau.specs.Calls.{Begun, Called, createOf, resetOf, processOf, flushOf, createRefusal, stateNumber, processNumber, flushNumber}
 use Rattle.tau.proofs.Accepted.{reset-began}
-use Rattle.tau_streams.specs.Stream.{Intact, begunBy, leftBy, Call, feed, flush, reset}
+use Rattle.tau_streams.specs.Stream.{Intact, begunBy, leftBy, cleanOf, blockOn, blocksOf, Call, feed, flush, reset}
 use Rattle.tau_streams.specs.Silence.{madeBy, callsOf}
 use Rattle.tau_streams.specs.Powers.{blockBy, pairBy, pairsBy, flushedBy, processBy, flushBy}
-use Rattle.tau_streams.proofs.Counts.{carry-intact, fill-intact, pair-intact, state-intact}
+use Rattle.tau_streams.proofs.Counts.{carry-intact, fill-intact, block-intact, block-partitions, pair-intact, state-intact}
 
 -- ---- by `runBlock` they are the calls
 
@@ -47,17 +48,17 @@ flush-own e out = refl
 
 -- ---- a block, a pair, all pairs, a flush
 
-module _ {n f : ℕ} (e : Engine) (near far : List Float) (valid : ℕ) (adapt : Bool) (i : Intact n f (emptied e)) (t : True e) where
-  sized : Sized (e .state .partitions) (emptied e)
-  sized = record { shadow = i .shadow; output = i .output; spectra = i .spectra; powers = i .powers }
+sized : {n f : ℕ} (e : Engine) → Intact n f (emptied e) → Sized (e .state .partitions) (emptied e)
+sized e i = record { shadow = i .shadow; output = i .output; spectra = i .spectra; powers = i .powers }
 
+module _ {n f : ℕ} (e : Engine) (near far : List Float) (valid : ℕ) (adapt : Bool) (i : Intact n f (emptied e)) (t : True e) where
   block-true : True (blockOf e near far valid adapt .engine)
   unfolding blockOf
-  block-true = block.block-true (emptied e) far (i .ranged .inring) sized t (record { near = near; valid = valid; adapt = adapt })
+  block-true = block.block-true (emptied e) far (i .ranged .inring) (sized e i) t (record { near = near; valid = valid; adapt = adapt })
 
   block-squared : blockBy squaredBlock e near far valid adapt ≡ blockOf e near far valid adapt
   unfolding blockBy blockOf
-  block-squared = rw (block.block-squared (emptied e) far (i .ranged .inring) sized t (record { near = near; valid = valid; adapt = adapt }))
+  block-squared = rw (block.block-squared (emptied e) far (i .ranged .inring) (sized e i) t (record { near = near; valid = valid; adapt = adapt }))
 
 pair-true : {n f : ℕ} (e : Engine) (x y : Float) → Intact n f e → True e → True (pairOf e x y .engine)
 unfolding pairOf
@@ -91,6 +92,39 @@ flushed-true e i t =
 flushed-squared : {n f : ℕ} (e : Engine) → Intact n f e → True e → flushedBy squaredBlock e ≡ flushedOf e
 unfolding flushedBy flushedOf
 flushed-squared e i t = rw (block-squared e _ _ (e .state .carried) false (carry-intact e _ _ 0 (omega arith) (i .near) (i .far) i) t)
+
+-- ---- false powers: gone after as many blocks as there are partitions
+
+-- m blocks on from an engine of whose slots the last k are true
+record On (n f : ℕ) (parts k : ℕ) (e : Engine) : Type 0 where
+  intact : Intact n f e
+  same : e .state .partitions ≡ parts
+  younger : block.Younger k e
+
+blocks-on : {n f parts : ℕ} (m k : ℕ) (e : Engine) (near far : List Float) → On n f parts k e → On n f parts (m + k) (blocksOf m e near far .engine)
+unfolding blocksOf blockOf
+blocks-on {n} {f} {parts} zero k e near far o = subst (λ (j : ℕ). On n f parts j e) (sym (zero-add k)) o
+blocks-on {n} {f} {parts} (suc m) k e near far o =
+    let i = o .intact in
+    let still : Intact n f (emptied e) = carry-intact e _ _ 0 (omega arith) (i .near) (i .far) i in
+    let a = cleanOf (take 256 near) in
+    let c = cleanOf (take 256 far) in
+    let next : On n f parts (suc k) (blockOn e (take 256 near) (take 256 far) .engine) = record {
+      intact = block-intact e a c 256 true still;
+      same = block-partitions e a c 256 true ∙ o .same;
+      younger =
+          block.block-younger (emptied e) c (i .ranged .inring) (sized e still) (record { each = o .younger .each }) (record { near = a; valid = 256; adapt = true });
+    } in
+    subst (λ (j : ℕ). On n f parts j (blocksOf (suc m) e near far .engine)) (add-suc m k ∙ sym (suc-add m k))
+    (blocks-on m (suc k) (blockOn e (take 256 near) (take 256 far) .engine) (drop 256 near) (drop 256 far) next)
+
+pub blocks-true : {n f : ℕ} (e : Engine) (near far : List Float) → Intact n f e → True (blocksOf (e .state .partitions) e near far .engine)
+blocks-true {n} {f} e near far i =
+    let parts = e .state .partitions in
+    let o = blocks-on {n = n} {f = f} {parts = parts} parts 0 e near far (record { intact = i; same = refl; younger = block.younger-none e }) in
+    let all : parts + 0 ≡ blocksOf parts e near far .engine .state .partitions = omega (arith, o .same) in
+    block.younger-all (blocksOf parts e near far .engine) (o .intact .ranged .inring)
+    (subst (λ (j : ℕ). block.Younger j (blocksOf parts e near far .engine)) all (o .younger))
 
 -- ---- the calls
 
