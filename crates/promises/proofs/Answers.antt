@@ -27,7 +27,7 @@ pub rho : Rho
 rho rate tail weights history e near far out = (one _, one _, λ r s h k. ap (λ c. c .answer) (h ∙ sym k), one _)
 
 pub tau : Tau
-tau parts flag shadow output spectra e near far out = (one _, one _, one _, one _)
+tau parts flag shadow output spectra powers e near far out = (one _, one _, one _, one _)
 
 pub hosts : Hosts
 hosts e near far out bytes x = (one _, one _, one _, one _)

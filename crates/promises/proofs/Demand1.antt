@@ -80,7 +80,7 @@ lent-refuses t s x out later =
 
 pub tau-create-refuses : TauCreateRefuses
 unfolding firstOf tau.createRefusal
-tau-create-refuses parts flag sh ou xs = accepted.create-answers parts flag sh ou xs
+tau-create-refuses parts flag sh ou xs ps = accepted.create-answers parts flag sh ou xs ps
 
 pub tau-process-refuses : TauProcessRefuses
 unfolding firstOf tau.processRefusal tau.stateRefusal tau.pairsRefusal
@@ -103,11 +103,11 @@ tau-untouched e near far out =
     )
 
 pub tau-unbegun : TauUnbegun
-tau-unbegun parts flag sh ou xs e =
-    let c = accepted.create-answers parts flag sh ou xs in
+tau-unbegun parts flag sh ou xs ps e =
+    let c = accepted.create-answers parts flag sh ou xs ps in
     let r = accepted.reset-answers e in (
-      λ h. accepted.create-refused parts flag sh ou xs (λ z. h (c ∙ z)) ∙ ap (λ (n : ℕ). unbegunOf n emptyOf sh ou xs) (sym c),
-      λ h. accepted.reset-refused e (λ z. h (r ∙ z)) ∙ ap (λ (n : ℕ). unbegunOf n (e .state) (e .shadow) (e .output) (e .spectra)) (sym r),
+      λ h. accepted.create-refused parts flag sh ou xs ps (λ z. h (c ∙ z)) ∙ ap (λ (n : ℕ). unbegunOf n emptyOf sh ou xs ps) (sym c),
+      λ h. accepted.reset-refused e (λ z. h (r ∙ z)) ∙ ap (λ (n : ℕ). unbegunOf n (e .state) (e .shadow) (e .output) (e .spectra) (e .powers)) (sym r),
     )
 
 -- ---- RhoCanceller

@@ -30,7 +30,7 @@ lent-runs t scratch x s out later a b h k =
 
 pub tau-begins : TauBegins
 tau-begins = (
-  λ parts flag sh ou xs h. accepted.create-began parts flag sh ou xs (sym (accepted.create-answers parts flag sh ou xs) ∙ h),
+  λ parts flag sh ou xs ps h. accepted.create-began parts flag sh ou xs ps (sym (accepted.create-answers parts flag sh ou xs ps) ∙ h),
   λ e h. accepted.reset-began e (sym (accepted.reset-answers e) ∙ h),
 )
 

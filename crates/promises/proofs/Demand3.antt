@@ -30,10 +30,10 @@ use Rattle.promises.specs.Demand3.{TauReady, TauHolds, TauCalls, TauCuts
 
 -- where a state is accepted, its two tests hold
 tau-tests : (e : Engine) → tau.stateNumber e ≡ 0
-    → (rangedOf (e .state) ≡ true) × (tauSized (e .state .partitions) (e .shadow) (e .output) (e .spectra) ≡ true)
+    → (rangedOf (e .state) ≡ true) × (tauSized (e .state .partitions) (e .shadow) (e .output) (e .spectra) (e .powers) ≡ true)
 unfolding tau.stateRefusal
 tau-tests e =
-    let sized = tauSized (e .state .partitions) (e .shadow) (e .output) (e .spectra) in
+    let sized = tauSized (e .state .partitions) (e .shadow) (e .output) (e .spectra) (e .powers) in
     let Both = (rangedOf (e .state) ≡ true) × (sized ≡ true) in
     pick-if (λ (n : ℕ). n ≡ 0 → Both) (rangedOf (e .state))
     (λ r. pick-if (λ (n : ℕ). n ≡ 0 → Both) sized (λ z _. (r, z)) (λ _ q. absurd (omega (arith, q))))
@@ -43,7 +43,7 @@ tau-ready : (e : Engine) → Good e → TauReady e
 tau-ready e g =
     let z = intact-accepted e g in
     let t = tau-tests e z in
-    let s = fresh.accepted-state (e .state) (length (e .shadow)) (length (e .output)) (length (e .spectra)) z in
+    let s = fresh.accepted-state (e .state) (length (e .shadow)) (length (e .output)) (length (e .spectra)) (length (e .powers)) z in
     record {
       ranged = t .0;
       sized = t .1;
@@ -66,7 +66,7 @@ holds t h = record {
 
 pub tau-calls : TauCalls
 tau-calls = (
-  λ parts flag sh ou xs cs z. holds _ (created-calls parts flag sh ou xs cs (sym (accepted.create-answers parts flag sh ou xs) ∙ z)),
+  λ parts flag sh ou xs ps cs z. holds _ (created-calls parts flag sh ou xs ps cs (sym (accepted.create-answers parts flag sh ou xs ps) ∙ z)),
   λ e cs z. holds _ (reset-calls e cs (sym (accepted.reset-answers e) ∙ z)),
 )
 

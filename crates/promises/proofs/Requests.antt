@@ -42,7 +42,7 @@ use Rattle.tau_detector.specs.Detector.{countOf, learned, stands}
 use Rattle.tau_paths.specs.Paths.{Comparison, reasonOf, settled, counted, shadowAfter, outputAfter, isRescue, acted, compared}
 use Rattle.tau_spectra.specs.Ring.{Ring, metBy}
 use Rattle.tau_filter.specs.Filter.{Shadowed, Estimated, echoOf, shadowed, estimated}
-use Rattle.tau_update.specs.Update.{framed, farPowerTo, ratesOf, gradientOf, learntAt, learntTo, learntBy, Updated, updated}
+use Rattle.tau_update.specs.Update.{framed, ratesOf, gradientOf, learntAt, learntTo, learntBy, Updated, updated}
 use Rattle.tau_suppressor.specs.Suppressor.{averaged, shaped, suppressed}
 use Rattle.tau_steps.proofs.Energy.{energy-zeros}
 use Rattle.tau_block.specs.Block.{listen, runBlock}
@@ -142,7 +142,7 @@ why-reported e near far out =
 pub why-last : WhyLast
 why-last e near far out k g z h n =
     let a = accepted.process-answers e near far out in
-    let l = accepted-pairs (e .state) (length (e .shadow)) (length (e .output)) (length (e .spectra)) _ _ _ (sym a ∙ h) in
+    let l = accepted-pairs (e .state) (length (e .shadow)) (length (e .output)) (length (e .spectra)) (length (e .powers)) _ _ _ (sym a ∙ h) in
     reported e near far out (sym a ∙ h)
     ∙ ap (λ (r : Run). r .last) (stream-blocks e near far g z (l .pairs .level))
     ∙ ap (λ (i : ℕ). blocksOf i e near far .last) n
@@ -282,13 +282,13 @@ unfolding suppressed pick
 suppressor-tells true protect error estimate s = refl
 suppressor-tells false protect error estimate s = refl
 
-update-tells : (runs : Bool) (ring : Ring) (error : List Float) (scale : Float) (means : List Float) (paths : Paths) (resets : ℕ) (shadow : List Float)
-    → updated runs ring error scale means paths resets shadow .overs
-    ≡ pick runs (iter (λ p n. n + oversOf (gradientOf (metBy ring p) (spectrumOf (framed error)) (ratesOf scale means (farPowerTo (ring .spectra) (ring .partitions))))) 0 (ring .partitions)) 0
+update-tells : (runs : Bool) (ring : Ring) (farPower error : List Float) (scale : Float) (means : List Float) (paths : Paths) (resets : ℕ) (shadow : List Float)
+    → updated runs ring farPower error scale means paths resets shadow .overs
+    ≡ pick runs (iter (λ p n. n + oversOf (gradientOf (metBy ring p) (spectrumOf (framed error)) (ratesOf scale means farPower))) 0 (ring .partitions)) 0
 unfolding updated
-update-tells runs ring error scale means paths resets shadow =
-    let l = learnt-overs ring (spectrumOf (framed error)) (ratesOf scale means (farPowerTo (ring .spectra) (ring .partitions))) shadow (ring .partitions) in
-    by-verdict runs (learntBy ring error scale means shadow .finite) _ _ _ _ l l refl
+update-tells runs ring farPower error scale means paths resets shadow =
+    let l = learnt-overs ring (spectrumOf (framed error)) (ratesOf scale means farPower) shadow (ring .partitions) in
+    by-verdict runs (learntBy ring farPower error scale means shadow .finite) _ _ _ _ l l refl
 
 pub steps-tell : StepsTell
 unfolding shadowed estimated

@@ -112,17 +112,17 @@ Rho = (rate tail : ℕ) (weights history : List Float) (e : rhoSample.Engine) (n
 
 -- TauCanceller
 abbrev pub Tau : Type 0
-Tau = (parts : ℕ) (flag : Bool) (shadow output spectra : List Float) (e : Engine) (near far out : List Float)
-    → One Begun (λ c. tau.Create parts flag shadow output spectra (c .answer) (c .shadow) (c .output) (c .spectra))
-    × One Called (λ c. tau.Process e near far out (c .answer) (c .shadow) (c .output) (c .spectra) (c .out))
-    × One Called (λ c. tau.Flush e out (c .answer) (c .shadow) (c .output) (c .spectra) (c .out))
-    × One Begun (λ c. tau.Reset e (c .answer) (c .shadow) (c .output) (c .spectra))
+Tau = (parts : ℕ) (flag : Bool) (shadow output spectra powers : List Float) (e : Engine) (near far out : List Float)
+    → One Begun (λ c. tau.Create parts flag shadow output spectra powers (c .answer) (c .shadow) (c .output) (c .spectra) (c .powers))
+    × One Called (λ c. tau.Process e near far out (c .answer) (c .shadow) (c .output) (c .spectra) (c .powers) (c .out))
+    × One Called (λ c. tau.Flush e out (c .answer) (c .shadow) (c .output) (c .spectra) (c .powers) (c .out))
+    × One Begun (λ c. tau.Reset e (c .answer) (c .shadow) (c .output) (c .spectra) (c .powers))
 
 -- capi: the calls that answer numbers where those below have an enum or a part; its other functions cite promises of these
 abbrev pub Hosts : Type 0
 Hosts = (e : Engine) (near far out : List Float) (bytes : List ℕ) (x : Float)
-    → One Hosted (λ c. TauProcess e near far out (c .answer) (c .shadow) (c .output) (c .spectra) (c .out))
-    × One Hosted (λ c. TauFlush e out (c .answer) (c .shadow) (c .output) (c .spectra) (c .out))
+    → One Hosted (λ c. TauProcess e near far out (c .answer) (c .shadow) (c .output) (c .spectra) (c .powers) (c .out))
+    × One Hosted (λ c. TauFlush e out (c .answer) (c .shadow) (c .output) (c .spectra) (c .powers) (c .out))
     × One recordCalls.RecordRead (RecordRead bytes)
     × One ℕ (NarrowKind x)
 
@@ -134,8 +134,8 @@ Bytes = (s out : List ℕ) (xs buf : List Float) (n : ℕ) (e : Engine)
     × One (List Float) (ReadFar s buf)
     × One (List ℕ) (KeepRest n s)
     × One (List ℕ) (WriteSamples xs out)
-    × One Fed (λ c. Feed e s out (c .answer) (c .shadow) (c .output) (c .spectra) (c .bytes))
-    × One Fed (λ c. Finish e out (c .answer) (c .shadow) (c .output) (c .spectra) (c .bytes))
+    × One Fed (λ c. Feed e s out (c .answer) (c .shadow) (c .output) (c .spectra) (c .powers) (c .bytes))
+    × One Fed (λ c. Finish e out (c .answer) (c .shadow) (c .output) (c .spectra) (c .powers) (c .bytes))
 
 -- record, recorded: s and out are lists of bytes
 abbrev pub Records : Type 0
@@ -143,8 +143,8 @@ Records = (kind : ℕ) (s out : List ℕ) (e : Engine)
     → One Found (Read s)
     × One (List ℕ) (Payload s)
     × One writing.Wrote (λ c. Write kind s out (record { refusal = c .refusal; written = c .written }) (c .out))
-    × One Left (λ c. recorded.Feed e s out (c .answer) (c .shadow) (c .output) (c .spectra) (c .out))
-    × One Left (λ c. recorded.Finish e out (c .answer) (c .shadow) (c .output) (c .spectra) (c .out))
+    × One Left (λ c. recorded.Feed e s out (c .answer) (c .shadow) (c .output) (c .spectra) (c .powers) (c .out))
+    × One Left (λ c. recorded.Finish e out (c .answer) (c .shadow) (c .output) (c .spectra) (c .powers) (c .out))
 
 -- the release list: a and b are lines, text and out lists of bytes
 abbrev pub Lists : Type 0

@@ -23,7 +23,8 @@ use Rattle.tau_state.specs.declared.state.Paths.{Paths}
 use Rattle.tau_state.specs.declared.report.Outcome.the-variants.{Move}
 use Rattle.tau_state.specs.declared.report.Reason.the-variants.{Moved}
 use Rattle.tau_block_laws.specs.Bounds.{Factor, Target}
-use Rattle.tau_update.specs.Update.{farPowerTo, factorOf}
+use Rattle.tau_spectra.specs.Powers.{farPowerTo}
+use Rattle.tau_update.specs.Update.{factorOf}
 use Rattle.tau_suppressor.specs.Suppressor.{targetOf}
 
 -- ---- numbers
@@ -78,7 +79,8 @@ Reversal =
 abbrev pub MoveLeak : Type 0
 MoveLeak = (asked : Conditions) (paths : Paths) (leak : Float) → reasonOf asked paths ≡ Moved leak → Leak leak
 
--- "the step factor in 6 is 0.02 to 1": of every bin k, whatever the spectra and the means hold
+-- "the step factor in 6 is 0.02 to 1": of every bin k, whatever the spectra and the means hold, by the powers worked out from the spectra;
+-- by kept powers it is Powers' `TrueFactor`
 abbrev pub StepFactor : Type 0
 StepFactor = (spectra means : List Float) (parts k : ℕ) → Factor (factorOf (getD means k nan) (getD (farPowerTo spectra parts) k nan))
 

@@ -63,8 +63,8 @@ Saying T = (κs : Lfts (T .signature .lifetimes)) → Args (T .signature) κs �
 abbrev pub rhoOf : RhoCanceller → RefT (List Float) → RefT (List Float) → rhoSample.Engine
 rhoOf s w h = record { state = s; weights = now w; history = now h }
 
-abbrev pub tauOf : TauCanceller → RefT (List Float) → RefT (List Float) → RefT (List Float) → Engine
-tauOf s sh ou xs = record { state = s; shadow = now sh; output = now ou; spectra = now xs }
+abbrev pub tauOf : TauCanceller → RefT (List Float) → RefT (List Float) → RefT (List Float) → RefT (List Float) → Engine
+tauOf s sh ou xs ps = record { state = s; shadow = now sh; output = now ou; spectra = now xs; powers = now ps }
 
 -- in the prover's logic, over any heap, memory and run
 module _ {M : Type 1} (𝓤 : URA M) (H : Heap 𝓤) (A : Atoms 𝓤) (mem : Memory → SProp 𝓤) (run : Routine → Fun 𝓤) where
@@ -162,17 +162,17 @@ module _ {M : Type 1} (𝓤 : URA M) (H : Heap 𝓤) (A : Atoms 𝓤) (mem : Mem
       × Says rho.reset.ended (rho.reset.clauses 𝓤 H A mem run)
       (λ _ (s, (w, (h, _))) r (_, (w', (h', _))). rhoPromises.Reset (rhoOf s w h) r (now w') (now h'))
 
-  -- TauCanceller: sh is the shadow, ou the output and xs the spectra
+  -- TauCanceller: sh is the shadow, ou the output, xs the spectra and ps their powers
   abbrev pub Tau : Type 2
   Tau =
       Says tau.create.ended (tau.create.clauses 𝓤 H A mem run)
-      (λ _ (parts, (flag, (sh, (ou, (xs, _))))) r (_, (_, (sh', (ou', (xs', _))))). tauPromises.Create parts flag (now sh) (now ou) (now xs) r (now sh') (now ou') (now xs'))
+      (λ _ (parts, (flag, (sh, (ou, (xs, (ps, _)))))) r (_, (_, (sh', (ou', (xs', (ps', _)))))). tauPromises.Create parts flag (now sh) (now ou) (now xs) (now ps) r (now sh') (now ou') (now xs') (now ps'))
       × Says tau.process.ended (tau.process.clauses 𝓤 H A mem run)
-      (λ _ (s, (sh, (ou, (xs, (near, (far, (out, _))))))) r (_, (sh', (ou', (xs', (_, (_, (out', _))))))). tauPromises.Process (tauOf s sh ou xs) (now near) (now far) (now out) r (now sh') (now ou') (now xs') (now out'))
+      (λ _ (s, (sh, (ou, (xs, (ps, (near, (far, (out, _)))))))) r (_, (sh', (ou', (xs', (ps', (_, (_, (out', _)))))))). tauPromises.Process (tauOf s sh ou xs ps) (now near) (now far) (now out) r (now sh') (now ou') (now xs') (now ps') (now out'))
       × Says tau.flush.ended (tau.flush.clauses 𝓤 H A mem run)
-      (λ _ (s, (sh, (ou, (xs, (out, _))))) r (_, (sh', (ou', (xs', (out', _))))). tauPromises.Flush (tauOf s sh ou xs) (now out) r (now sh') (now ou') (now xs') (now out'))
+      (λ _ (s, (sh, (ou, (xs, (ps, (out, _)))))) r (_, (sh', (ou', (xs', (ps', (out', _)))))). tauPromises.Flush (tauOf s sh ou xs ps) (now out) r (now sh') (now ou') (now xs') (now ps') (now out'))
       × Says tau.reset.ended (tau.reset.clauses 𝓤 H A mem run)
-      (λ _ (s, (sh, (ou, (xs, _)))) r (_, (sh', (ou', (xs', _)))). tauPromises.Reset (tauOf s sh ou xs) r (now sh') (now ou') (now xs'))
+      (λ _ (s, (sh, (ou, (xs, (ps, _))))) r (_, (sh', (ou', (xs', (ps', _))))). tauPromises.Reset (tauOf s sh ou xs ps) r (now sh') (now ou') (now xs') (now ps'))
 
   -- capi
   abbrev pub Hosts : Type 2
@@ -191,9 +191,9 @@ module _ {M : Type 1} (𝓤 : URA M) (H : Heap 𝓤) (A : Atoms 𝓤) (mem : Mem
       × (capi.«aspeyruni_rho_reset».clauses 𝓤 H A mem run ≡ rho.reset.clauses 𝓤 H A mem run)
       × (capi.«aspeyruni_tau_create».clauses 𝓤 H A mem run ≡ tau.create.clauses 𝓤 H A mem run)
       × Says capi.«aspeyruni_tau_process».ended (capi.«aspeyruni_tau_process».clauses 𝓤 H A mem run)
-      (λ _ (s, (sh, (ou, (xs, (near, (far, (out, _))))))) r (_, (sh', (ou', (xs', (_, (_, (out', _))))))). TauProcess (tauOf s sh ou xs) (now near) (now far) (now out) r (now sh') (now ou') (now xs') (now out'))
+      (λ _ (s, (sh, (ou, (xs, (ps, (near, (far, (out, _)))))))) r (_, (sh', (ou', (xs', (ps', (_, (_, (out', _)))))))). TauProcess (tauOf s sh ou xs ps) (now near) (now far) (now out) r (now sh') (now ou') (now xs') (now ps') (now out'))
       × Says capi.«aspeyruni_tau_flush».ended (capi.«aspeyruni_tau_flush».clauses 𝓤 H A mem run)
-      (λ _ (s, (sh, (ou, (xs, (out, _))))) r (_, (sh', (ou', (xs', (out', _))))). TauFlush (tauOf s sh ou xs) (now out) r (now sh') (now ou') (now xs') (now out'))
+      (λ _ (s, (sh, (ou, (xs, (ps, (out, _)))))) r (_, (sh', (ou', (xs', (ps', (out', _)))))). TauFlush (tauOf s sh ou xs ps) (now out) r (now sh') (now ou') (now xs') (now ps') (now out'))
       × (capi.«aspeyruni_tau_reset».clauses 𝓤 H A mem run ≡ tau.reset.clauses 𝓤 H A mem run)
       × Says capi.«aspeyruni_record_read».ended (capi.«aspeyruni_record_read».clauses 𝓤 H A mem run) (λ _ (bytes, _) r _. RecordRead (now bytes) r)
       × (capi.«aspeyruni_record_write».clauses 𝓤 H A mem run ≡ records.write.clauses 𝓤 H A mem run)
@@ -211,9 +211,9 @@ module _ {M : Type 1} (𝓤 : URA M) (H : Heap 𝓤) (A : Atoms 𝓤) (mem : Mem
       × Says wire.«write_samples».ended (wire.«write_samples».clauses 𝓤 H A mem run)
       (λ _ (samples, (bytes, _)) r (_, (bytes', _)). WriteSamples (now samples) (now bytes) (now bytes'))
       × Says capture.feed.ended (capture.feed.clauses 𝓤 H A mem run)
-      (λ _ (s, (sh, (ou, (xs, (held, (bytes, _)))))) r (_, (sh', (ou', (xs', (_, (bytes', _)))))). Feed (tauOf s sh ou xs) (now held) (now bytes) r (now sh') (now ou') (now xs') (now bytes'))
+      (λ _ (s, (sh, (ou, (xs, (ps, (held, (bytes, _))))))) r (_, (sh', (ou', (xs', (ps', (_, (bytes', _))))))). Feed (tauOf s sh ou xs ps) (now held) (now bytes) r (now sh') (now ou') (now xs') (now ps') (now bytes'))
       × Says capture.finish.ended (capture.finish.clauses 𝓤 H A mem run)
-      (λ _ (s, (sh, (ou, (xs, (bytes, _))))) r (_, (sh', (ou', (xs', (bytes', _))))). Finish (tauOf s sh ou xs) (now bytes) r (now sh') (now ou') (now xs') (now bytes'))
+      (λ _ (s, (sh, (ou, (xs, (ps, (bytes, _)))))) r (_, (sh', (ou', (xs', (ps', (bytes', _)))))). Finish (tauOf s sh ou xs ps) (now bytes) r (now sh') (now ou') (now xs') (now ps') (now bytes'))
 
   -- record, of which the payload is a part of the bytes; recorded
   abbrev pub Records : Type 2
@@ -223,9 +223,9 @@ module _ {M : Type 1} (𝓤 : URA M) (H : Heap 𝓤) (A : Atoms 𝓤) (mem : Mem
       × Says records.write.ended (records.write.clauses 𝓤 H A mem run)
       (λ _ (kind, (payload, (out, _))) r (_, (_, (out', _))). Write kind (now payload) (now out) r (now out'))
       × Says recorded.feed.ended (recorded.feed.clauses 𝓤 H A mem run)
-      (λ _ (s, (sh, (ou, (xs, (pairs, (out, _)))))) r (_, (sh', (ou', (xs', (_, (out', _)))))). recordedPromises.Feed (tauOf s sh ou xs) (now pairs) (now out) r (now sh') (now ou') (now xs') (now out'))
+      (λ _ (s, (sh, (ou, (xs, (ps, (pairs, (out, _))))))) r (_, (sh', (ou', (xs', (ps', (_, (out', _))))))). recordedPromises.Feed (tauOf s sh ou xs ps) (now pairs) (now out) r (now sh') (now ou') (now xs') (now ps') (now out'))
       × Says recorded.finish.ended (recorded.finish.clauses 𝓤 H A mem run)
-      (λ _ (s, (sh, (ou, (xs, (out, _))))) r (_, (sh', (ou', (xs', (out', _))))). recordedPromises.Finish (tauOf s sh ou xs) (now out) r (now sh') (now ou') (now xs') (now out'))
+      (λ _ (s, (sh, (ou, (xs, (ps, (out, _)))))) r (_, (sh', (ou', (xs', (ps', (out', _)))))). recordedPromises.Finish (tauOf s sh ou xs ps) (now out) r (now sh') (now ou') (now xs') (now ps') (now out'))
 
   -- the release list
   abbrev pub Lists : Type 2

@@ -73,20 +73,20 @@ LentRefuses = (t s x out : List Float) (later : Bool)
 
 -- ---- TauCanceller
 
-abbrev pub tauSized : ℕ → List Float → List Float → List Float → Bool
-tauSized parts sh ou xs = tau.sizedOf parts (length sh) (length ou) (length xs)
+abbrev pub tauSized : ℕ → List Float → List Float → List Float → List Float → Bool
+tauSized parts sh ou xs ps = tau.sizedOf parts (length sh) (length ou) (length xs) (length ps)
 
 -- creation 1, 2
 abbrev pub TauCreateRefuses : Type 0
-TauCreateRefuses = (parts : ℕ) (flag : Bool) (sh ou xs : List Float)
-    → tau.createOf parts flag sh ou xs .answer .refusal ≡ firstOf (test (tau.settingsOf parts) 1 ∷ test (tauSized parts sh ou xs) 2 ∷ [])
+TauCreateRefuses = (parts : ℕ) (flag : Bool) (sh ou xs ps : List Float)
+    → tau.createOf parts flag sh ou xs ps .answer .refusal ≡ firstOf (test (tau.settingsOf parts) 1 ∷ test (tauSized parts sh ou xs ps) 2 ∷ [])
 
 -- process 6, 2, 3, 4, 5
 abbrev pub TauProcessRefuses : Type 0
 TauProcessRefuses = (e : Engine) (near far out : List Float)
     → tau.processOf e near far out .answer .refusal ≡ firstOf (
     test (rangedOf (e .state)) 6
-    ∷ test (tauSized (e .state .partitions) (e .shadow) (e .output) (e .spectra)) 2
+    ∷ test (tauSized (e .state .partitions) (e .shadow) (e .output) (e .spectra) (e .powers)) 2
     ∷ test (eqb (length near) (length far)) 3
     ∷ test (leb (length near) 4096) 4
     ∷ test (leb (deliversOf (e .state .carried) (length near)) (length out)) 5
@@ -97,7 +97,7 @@ abbrev pub TauFlushRefuses : Type 0
 TauFlushRefuses = (e : Engine) (out : List Float)
     → tau.flushOf e out .answer .refusal ≡ firstOf (
     test (rangedOf (e .state)) 6
-    ∷ test (tauSized (e .state .partitions) (e .shadow) (e .output) (e .spectra)) 2
+    ∷ test (tauSized (e .state .partitions) (e .shadow) (e .output) (e .spectra) (e .powers)) 2
     ∷ test (leb (e .state .carried) (length out)) 5
     ∷ [])
 
@@ -105,7 +105,7 @@ TauFlushRefuses = (e : Engine) (out : List Float)
 abbrev pub TauResetRefuses : Type 0
 TauResetRefuses = (e : Engine)
     → tau.resetOf e .answer .refusal ≡ firstOf (
-    test (rangedOf (e .state)) 6 ∷ test (tauSized (e .state .partitions) (e .shadow) (e .output) (e .spectra)) 2 ∷ [])
+    test (rangedOf (e .state)) 6 ∷ test (tauSized (e .state .partitions) (e .shadow) (e .output) (e .spectra) (e .powers)) 2 ∷ [])
 
 -- "returns its number, zero delivered and the state as given, and writes nothing": a refused call is one that hands all back
 abbrev pub TauUntouched : Type 0
@@ -114,15 +114,15 @@ TauUntouched = (e : Engine) (near far out : List Float)
     × ((tau.flushOf e out .answer .refusal ≡ 0 → ⊥) → tau.flushOf e out ≡ tau.refusedOf (tau.flushOf e out .answer .refusal) e out)
 
 -- creation, of which "its state is then all zero", and reset
-abbrev pub unbegunOf : ℕ → TauCanceller → List Float → List Float → List Float → tau.Begun
-unbegunOf refusal s sh ou xs = record { answer = record { refusal = refusal; state = s }; shadow = sh; output = ou; spectra = xs }
+abbrev pub unbegunOf : ℕ → TauCanceller → List Float → List Float → List Float → List Float → tau.Begun
+unbegunOf refusal s sh ou xs ps = record { answer = record { refusal = refusal; state = s }; shadow = sh; output = ou; spectra = xs; powers = ps }
 
 abbrev pub TauUnbegun : Type 0
-TauUnbegun = (parts : ℕ) (flag : Bool) (sh ou xs : List Float) (e : Engine)
-    → ((tau.createOf parts flag sh ou xs .answer .refusal ≡ 0 → ⊥)
-    → tau.createOf parts flag sh ou xs ≡ unbegunOf (tau.createOf parts flag sh ou xs .answer .refusal) emptyOf sh ou xs)
+TauUnbegun = (parts : ℕ) (flag : Bool) (sh ou xs ps : List Float) (e : Engine)
+    → ((tau.createOf parts flag sh ou xs ps .answer .refusal ≡ 0 → ⊥)
+    → tau.createOf parts flag sh ou xs ps ≡ unbegunOf (tau.createOf parts flag sh ou xs ps .answer .refusal) emptyOf sh ou xs ps)
     × ((tau.resetOf e .answer .refusal ≡ 0 → ⊥)
-    → tau.resetOf e ≡ unbegunOf (tau.resetOf e .answer .refusal) (e .state) (e .shadow) (e .output) (e .spectra))
+    → tau.resetOf e ≡ unbegunOf (tau.resetOf e .answer .refusal) (e .state) (e .shadow) (e .output) (e .spectra) (e .powers))
 
 -- ---- RhoCanceller
 

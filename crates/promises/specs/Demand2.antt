@@ -53,8 +53,8 @@ LentRuns = (t scratch x s out : List Float) (later : Bool) → length t ≡ 514 
 -- counters; all else becomes the fresh state."
 abbrev pub TauBegins : Type 0
 TauBegins =
-    ((parts : ℕ) (flag : Bool) (sh ou xs : List Float) → tau.createOf parts flag sh ou xs .answer .refusal ≡ 0
-    → tau.createOf parts flag sh ou xs ≡ tau.begunOf parts flag 0 0)
+    ((parts : ℕ) (flag : Bool) (sh ou xs ps : List Float) → tau.createOf parts flag sh ou xs ps .answer .refusal ≡ 0
+    → tau.createOf parts flag sh ou xs ps ≡ tau.begunOf parts flag 0 0)
     × ((e : Engine) → tau.resetOf e .answer .refusal ≡ 0
     → let s = e .state in
     tau.resetOf e ≡ tau.begunOf (s .partitions) (s .suppress) (s .mic .transfers) (s .mic .«divergence_resets»))

@@ -31,7 +31,7 @@ use Rattle.promises.specs.Demand1.{tauSized, rhoSized}
 -- with room for what waits, and a process of as many near as far samples, at most 4,096, with room for what it delivers.
 pub record TauReady (e : Engine) : Type 0 where
   pub ranged : rangedOf (e .state) ≡ true
-  pub sized : tauSized (e .state .partitions) (e .shadow) (e .output) (e .spectra) ≡ true
+  pub sized : tauSized (e .state .partitions) (e .shadow) (e .output) (e .spectra) (e .powers) ≡ true
   pub resets : tau.resetOf e .answer .refusal ≡ 0
   pub flushes : (out : List Float) → e .state .carried ≤ length out → tau.flushOf e out .answer .refusal ≡ 0
   pub feeds : (near far out : List Float) → length near ≡ length far → length near ≤ 4096
@@ -58,8 +58,8 @@ pub record TauHolds (t : Since) : Type 0 where
 -- from an accepted creation, and from an accepted reset, over any calls, refused ones among them
 abbrev pub TauCalls : Type 0
 TauCalls =
-    ((parts : ℕ) (flag : Bool) (sh ou xs : List Float) (cs : List Call) → tau.createOf parts flag sh ou xs .answer .refusal ≡ 0
-    → TauHolds (afterCalls (anew (begunBy (tau.createOf parts flag sh ou xs))) cs))
+    ((parts : ℕ) (flag : Bool) (sh ou xs ps : List Float) (cs : List Call) → tau.createOf parts flag sh ou xs ps .answer .refusal ≡ 0
+    → TauHolds (afterCalls (anew (begunBy (tau.createOf parts flag sh ou xs ps))) cs))
     × ((e : Engine) (cs : List Call) → tau.resetOf e .answer .refusal ≡ 0 → TauHolds (afterCalls (anew (begunBy (tau.resetOf e))) cs))
 
 -- any two ways to cut a stream into accepted calls give the same samples, state, buffers and last block,

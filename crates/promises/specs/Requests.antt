@@ -35,11 +35,10 @@ use Rattle.tau_clears.specs.Weights.{leaked}
 use Rattle.tau_detector.specs.Detector.{coherenceOf, learned, judged}
 use Rattle.tau_paths.specs.Paths.{leakOf, advantageOf, acted, weighedIf}
 use Rattle.tau_spectra.specs.Ring.{Ring, ringOf, metBy}
-use Rattle.tau_spectra.specs.Far.{Heard, hearFar}
 use Rattle.tau_filter.specs.Filter.{shadowed, echoOf, estimated}
-use Rattle.tau_update.specs.Update.{updated, framed, farPowerTo, ratesOf, gradientOf}
+use Rattle.tau_update.specs.Update.{updated, framed, ratesOf, gradientOf}
 use Rattle.tau_suppressor.specs.Suppressor.{averaged, shaped, suppressed}
-use Rattle.tau_block.specs.Block.{Block, Listened, Engine, quiet, runBlock}
+use Rattle.tau_block.specs.Block.{Block, Listened, Engine, quiet, heardIn, runBlock}
 use Rattle.tau_block.specs.Groups.{Filtered, Judgement, filtered, askedOf, updates, suppresses, delivered, gathered, compares}
 use Rattle.tau.specs.Calls as tau
 use Rattle.tau_streams.specs.Stream.{Good, blockOn, blocksOf}
@@ -70,10 +69,8 @@ FirstHolds =
     × ((before after : List Cause) (c : Cause) (otherwise : Reason) → NoneHolds before → c .holds ≡ true
     → firstOf (before ++ (c ∷ after)) otherwise ≡ c .reason)
 
--- What a block has come to before anything is decided: what was heard (steps 1 and 4), the two filters (2 and 3) and the detector (5),
-abbrev pub heardIn : Engine → List Float → Heard
-heardIn e far = let s = e .state in hearFar (s .partitions) (s .far) far (e .spectra)
-
+-- What a block has come to before anything is decided: what was heard (steps 1 and 4, `heardIn`), the two filters (2 and 3) and the
+-- detector (5),
 abbrev pub ringIn : Engine → List Float → Ring
 ringIn e far = let heard = heardIn e far in ringOf (e .state .partitions) (heard .far .head) (heard .spectra)
 
@@ -251,8 +248,8 @@ MutedStands = (e : Engine) (far : List Float) (b : Block) → Muted b → AsItWa
 abbrev pub HeardLearns : Type 0
 HeardLearns = (e : Engine) (far : List Float) (b : Block)
     → let s = e .state in
-    let heard = hearFar (s .partitions) (s .far) far (e .spectra) in
-    let ring = ringOf (s .partitions) (heard .far .head) (heard .spectra) in
+    let heard = heardIn e far in
+    let ring = ringIn e far in
     let estimate = shadowed ring (b .near) (s .mic .paths) (s .mic .«divergence_resets») (e .shadow) .estimate in
     let c = coherenceOf (crossOf (b .near) estimate (b .valid)) (energyOf (b .near) (b .valid)) (energyOf estimate (b .valid)) in
     heard .active ≡ true → (Muted b → ⊥) → runBlock e far b .engine .state .mic .detector ≡ learned (s .mic .detector) c
@@ -320,10 +317,10 @@ pub record StepsTell : Type 0 where
       → shadowed ring near paths resets shadow .overs ≡ oversOf (echoOf shadow ring)
   pub output : (ring : Ring) (near : List Float) (paths : Paths) (suppressor : Suppressor) (resets : ℕ) (shadow output : List Float)
       → estimated ring near paths suppressor resets shadow output .overs ≡ oversOf (echoOf output ring)
-  pub update : (runs : Bool) (ring : Ring) (error : List Float) (scale : Float) (means : List Float) (paths : Paths) (resets : ℕ) (shadow : List Float)
+  pub update : (runs : Bool) (ring : Ring) (farPower error : List Float) (scale : Float) (means : List Float) (paths : Paths) (resets : ℕ) (shadow : List Float)
       → let spectrum = spectrumOf (framed error) in
-      let rates = ratesOf scale means (farPowerTo (ring .spectra) (ring .partitions)) in
-      updated runs ring error scale means paths resets shadow .overs
+      let rates = ratesOf scale means farPower in
+      updated runs ring farPower error scale means paths resets shadow .overs
       ≡ pick runs (iter (λ p n. n + oversOf (gradientOf (metBy ring p) spectrum rates)) 0 (ring .partitions)) 0
   pub suppressor : (runs protect : Bool) (error estimate : List Float) (suppressor : Suppressor)
       → let after = suppressed runs protect error estimate suppressor .suppressor in
@@ -337,7 +334,7 @@ BlockTells = (e : Engine) (far : List Float) (b : Block)
     let f = filteredIn e far b in
     let d = detectorIn e far b in
     let j = compares (b .adapt) (heardIn e far .active) (b .near) (energyOf (b .near) (b .valid)) (b .valid) f (e .state .mic) in
-    let update = updated (updates (b .adapt) f j) ring (f .shadowError) (d .«step_scale») (e .state .mic .«far_power_mean») (j .comparison .paths) (f .output .resets) (j .comparison .shadow) in
+    let update = updated (updates (b .adapt) f j) ring (heardIn e far .farPower) (f .shadowError) (d .«step_scale») (e .state .mic .«far_power_mean») (j .comparison .paths) (f .output .resets) (j .comparison .shadow) in
     let suppression = suppressed (suppresses (e .state .suppress) (heardIn e far .far .«far_active») f) (d .«protect_output») (f .output .error) (f .output .spectrum) (f .output .suppressor) in
     runBlock e far b .told .overs
     ≡ oversOf (echoOf (e .shadow) ring) + oversOf (echoOf (e .output) ring) + update .overs + suppression .overs
