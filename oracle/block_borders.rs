@@ -6,7 +6,7 @@ use crate::inputs::{word_of, DIGITS, SIGN};
 use crate::kinds::*;
 use crate::recipe::{sounds_of, Recipe, Sounds};
 use crate::tau_lines::*;
-use crate::tau_reference;
+use crate::tau_reference::{self, sizes};
 use crate::{amid_rescue, block, target_is_gain, List};
 
 /// Where any word will do.
@@ -201,11 +201,11 @@ fn judged(list: &mut List, (shadow, sounds): (u64, u64), baseline: f64) {
 /// The c of such a block.
 fn likeness((shadow, sounds): (u64, u64)) -> f64 {
     let mut state = established(1);
-    let [mut a, mut b, mut c] = [[0.0; NUMBERS]; 3];
+    let mut buffers = sizes(1).map(|n| vec![0.0; n]);
     let recipe = Recipe64::noise(shadow, SOUND64);
-    recipe.make(SHADOW, &mut state, [&mut a, &mut b, &mut c]);
+    recipe.make(SHADOW, &mut state, lend(&mut buffers, sizes(1)));
     let [near, far] = block(sounds_of(sounds, LOW, SOUND, 0.5), BLOCK);
-    let lent = [&mut a[..], &mut b, &mut c];
+    let lent = lend(&mut buffers, sizes(1));
     let (_, taken) = tau_reference::run_block(&state, &near, &far, BLOCK, true, lent);
     taken.likeness.unwrap()
 }

@@ -4,6 +4,7 @@
 mod aspeyruni;
 mod block_borders;
 mod block_overs;
+mod block_powers;
 mod block_reasons;
 mod branches;
 #[allow(dead_code)] // the Rust's text, whole
@@ -25,13 +26,13 @@ mod tau_reference;
 
 use aspeyruni::tau::*;
 use branches::Counts;
-use inputs::{bits, halves, hash32, line, Random};
+use inputs::{bits, halves, hash, hash32, line, Random};
 use kinds::*;
 use recipe::Sounds;
 use taken::Taken;
 use tau_calls::Told;
 use tau_lines::*;
-use tau_reference::{Seen, MOST_PARTITIONS};
+use tau_reference::{sizes, Seen, MOST_PARTITIONS};
 
 /// What a line comes to but for the state and the buffers.
 struct Got {
@@ -53,9 +54,7 @@ struct List {
     text: String,
     random: Random,
     state: TauCanceller,
-    shadow: Vec<f64>,
-    output: Vec<f64>,
-    spectra: Vec<f64>,
+    buffers: [Vec<f64>; 4],
     told: Told,
     taken: Taken,
     counts: Counts,
@@ -66,8 +65,9 @@ impl List {
         self.random.word()
     }
 
-    fn lent(&self) -> usize {
-        NUMBERS * self.state.partitions
+    /// As much of the buffers as the partitions have.
+    fn lent(&mut self) -> Lent<'_> {
+        lend(&mut self.buffers, sizes(self.state.partitions))
     }
 
     /// A line, by its fields 0 to 7 and what it comes to.
@@ -80,11 +80,11 @@ impl List {
             bits(outcome.leak()),
             hash32(&got.block),
         ];
-        let n = self.lent();
-        let buffers = [&self.shadow, &self.output, &self.spectra];
-        let kept = tau_lines::fields(&self.state, buffers.map(|buffer| &buffer[..n]));
-        // the last field is kept for request K10
-        let last = [halves([reason.number() as usize, overs as usize]), 0];
+        let state = self.state;
+        let buffers = self.lent().map(|buffer| &*buffer);
+        let kept = tau_lines::fields(&state, buffers);
+        let because = halves([reason.number() as usize, overs as usize]);
+        let last = [because, hash(buffers[3])];
         let fields = given.iter().chain(&answered).chain(&kept).chain(&last);
         self.text += &line(letter, fields);
     }
@@ -92,10 +92,7 @@ impl List {
     /// All as creation leaves it, but for the numbers of the state that are in no array.
     fn new_with(&mut self, state: TauCanceller) {
         self.state = state;
-        let n = self.lent();
-        self.shadow[..n].fill(0.0);
-        self.output[..n].fill(0.0);
-        self.spectra[..n].fill(0.0);
+        self.lent().into_iter().for_each(|buffer| buffer.fill(0.0));
         self.counts.is_foreign = true;
         self.counts.has_diverged = false;
         self.line('n', [0; 8], Got::nothing());
@@ -120,10 +117,9 @@ impl List {
     }
 
     fn make_by(&mut self, array: u64, recipe: Recipe64) {
-        let n = self.lent();
-        let buffers = [&mut self.shadow, &mut self.output, &mut self.spectra];
-        let buffers = buffers.map(|buffer| &mut buffer[..n]);
-        recipe.make(array, &mut self.state, buffers);
+        let mut state = self.state;
+        recipe.make(array, &mut state, self.lent());
+        self.state = state;
         self.counts.is_foreign = true;
         self.line('a', recipe.fields(array), Got::nothing());
     }
@@ -134,18 +130,15 @@ impl List {
 
     /// Full blocks of a process call, or the one of flush.
     fn run(&mut self, letter: char, sounds: Sounds, valid: usize, count: usize) {
-        let n = self.lent();
         let mut got = Got::nothing();
         let mut next = sounds;
         for _ in 0..count {
             let [near, far] = block(next, valid);
             // the next block's seeds are the hashes of this one's noise
             next = next.seeded(|recipe| hash32(&recipe.samples(BLOCK)));
-            let buffers = [&mut self.shadow, &mut self.output, &mut self.spectra];
-            let buffers = buffers.map(|buffer| &mut buffer[..n]);
             let (before, adapt) = (self.state, letter == 'b');
             let (answer, taken) =
-                tau_reference::run_block(&before, &near, &far, valid, adapt, buffers);
+                tau_reference::run_block(&before, &near, &far, valid, adapt, self.lent());
             self.counts.see(Seen {
                 before: &before,
                 blocked: &answer,
@@ -194,14 +187,11 @@ fn block(sounds: Sounds, valid: usize) -> [[f32; BLOCK]; 2] {
 }
 
 fn main() {
-    let buffer = vec![0.0; NUMBERS * MOST_PARTITIONS];
     let mut list = List {
         text: String::new(),
         random: Random(0x2545_f491_4f6c_dd1d),
         state: tau_reference::fresh(1, true),
-        shadow: buffer.clone(),
-        output: buffer.clone(),
-        spectra: buffer,
+        buffers: sizes(MOST_PARTITIONS).map(|n| vec![0.0; n]),
         told: Told::NOTHING,
         taken: Taken::default(),
         counts: Counts::none(),
@@ -222,6 +212,7 @@ fn main() {
     block_borders::all(&mut list);
     block_reasons::all(&mut list);
     block_overs::all(&mut list);
+    block_powers::all(&mut list);
     list.counts.tell_all_taken();
     print!("{}", list.text);
 }

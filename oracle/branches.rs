@@ -8,7 +8,7 @@ use crate::tau_calls::{Outcome, Reason, REASONS};
 use crate::tau_reference::Seen;
 
 /// All that a list has to reach, in the order of the block's steps.
-const ALL: [&str; 62] = [
+const ALL: [&str; 66] = [
     "1 partition",
     "2 partitions",
     "4 partitions",
@@ -71,6 +71,10 @@ const ALL: [&str; 62] = [
     "quiet streak held",
     "transfers held",
     "resets held",
+    "powers false",
+    "powers false, nothing learnt",
+    "powers false no longer",
+    "step factor above 1",
 ];
 
 /// What went over in a block (request K8). All of it has to come from creation and from a foreign state.
@@ -224,6 +228,13 @@ impl Ran<'_> {
             }
             "transfers held" => t.leak.is_some() && before.transfers == u64::MAX,
             "resets held" => (self.diverged() || t.guarded) && before.divergence_resets == u64::MAX,
+            "powers false" => t.had_false_powers,
+            "powers false, nothing learnt" => {
+                let updates = !self.flushes && !t.diverged && !t.shadow_diverged && !t.rescued;
+                t.had_false_powers && !updates
+            }
+            "powers false no longer" => t.had_false_powers && !t.has_false_powers,
+            "step factor above 1" => t.most_step > 1.0,
             _ => unreachable!(),
         }
     }
@@ -313,6 +324,10 @@ impl Counts {
             flushes: seen.flushes,
             after_divergence: self.has_diverged,
         };
+        // request K10: where calls made the state no power is false, and where none is no step factor is above 1
+        let t = &seen.taken;
+        assert!(self.is_foreign || !t.had_false_powers && !t.has_false_powers);
+        assert!(t.had_false_powers || !t.has_false_powers && t.most_step <= 1.0);
         self.branches.add(&ran, self.is_foreign);
         self.blocks[seen.before.partitions] += 1;
         self.has_diverged = ran.diverged();

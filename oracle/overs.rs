@@ -21,12 +21,13 @@ mod tau_calls;
 mod tau_lines;
 mod tau_reference;
 
-use aspeyruni::tau::{self, Answer, TauCanceller, BLOCK, NUMBERS};
-use inputs::{bits, hash32, Random, DIGITS, SIGN, SIZES};
+use aspeyruni::tau::{self, Answer, Lent, TauCanceller, BLOCK, NUMBERS};
+use inputs::{bits, hash, hash32, Random, DIGITS, SIGN, SIZES};
 use kinds::*;
 use taken::{Taken, INVERSES};
 use tally::Tally;
 use tau_lines::*;
+use tau_reference::sizes;
 
 /// So many blocks, at least, have what went over in them compared, each the last of its call.
 const BLOCKS: u64 = 120_000;
@@ -44,12 +45,12 @@ const NEARS: [Kind; 6] = [LOW, LOW, SILENCE, LARGE, HUGE, LARGEST];
 #[derive(Clone)]
 struct Side {
     state: TauCanceller,
-    buffers: [Vec<f64>; 3],
+    buffers: [Vec<f64>; 4],
     out: [f32; 2 * BLOCK],
 }
 
 impl Side {
-    fn lent(&mut self) -> ([&mut [f64]; 3], &mut [f32]) {
+    fn lent(&mut self) -> (Lent<'_>, &mut [f32]) {
         let buffers = self.buffers.each_mut();
         (buffers.map(|buffer| &mut buffer[..]), &mut self.out)
     }
@@ -59,6 +60,7 @@ impl Side {
         let buffers = self.buffers.each_ref().map(|buffer| &buffer[..]);
         let mut numbers = fields(&answer.state, buffers);
         numbers.extend([
+            hash(buffers[3]),
             answer.refusal.into(),
             answer.delivered as u64,
             answer.transfers,
@@ -136,7 +138,7 @@ struct Both {
 fn main() {
     let side = Side {
         state: TauCanceller::zero(),
-        buffers: [Vec::new(), Vec::new(), Vec::new()],
+        buffers: Default::default(),
         out: [0.0; 2 * BLOCK],
     };
     let mut both = Both {
@@ -173,8 +175,7 @@ impl Both {
         let partitions = self.random.one_of(&PARTITIONS);
         let mut state = established(partitions);
         state.suppress = self.random.below(4) > 0;
-        let buffer = vec![0.0; NUMBERS * partitions];
-        self.rust.buffers = [buffer.clone(), buffer.clone(), buffer];
+        self.rust.buffers = sizes(partitions).map(|n| vec![0.0; n]);
         let about = self.random.one_of(&[0, 0, 0, 40, 880 - far]);
         match self.random.below(6) {
             0 => self.make(SHADOW, &mut state, 119 - far + about),
@@ -216,15 +217,14 @@ impl Both {
         };
         let place = self.random.below(NUMBERS) as u64;
         let recipe = Recipe64::noise(word, noise).with(place, number);
-        let [a, b, c] = &mut self.rust.buffers;
-        recipe.make(array, state, [a, b, c]);
+        recipe.make(array, state, self.rust.lent().0);
     }
 
     /// What the suppressor keeps of the block before.
     fn window(&mut self, state: &mut TauCanceller) {
         let kind = self.random.one_of(&[LOW, LARGE, HUGE, LARGEST]);
         let recipe = Recipe64::noise(self.random.seed(), kind);
-        recipe.make(ERROR_WINDOW, state, [&mut [], &mut [], &mut []]);
+        recipe.make(ERROR_WINDOW, state, [&mut [], &mut [], &mut [], &mut []]);
     }
 
     fn process(&mut self, near: &[f32], far: &[f32]) {

@@ -48,8 +48,12 @@ pub struct Taken {
     pub leak: Option<f64>,
     /// The test that stopped it.
     pub failed: Option<Test>,
-    /// A bin's step factor at 0.02.
+    /// A bin's step factor at 0.02, and the largest of all bins.
     pub least_step: bool,
+    pub most_step: f64,
+    /// Whether a kept power was false before the block, and is after it.
+    pub had_false_powers: bool,
+    pub has_false_powers: bool,
     pub suppressed: bool,
     /// A bin's gain going up, one not, and a bin's target at 0.1.
     pub rising: bool,

@@ -17,14 +17,19 @@ impl Tally {
         self.call(bits(port) == bits(rust));
     }
 
-    pub fn all(&mut self, port: &[f64], rust: &[f64]) {
+    /// And whether none differs.
+    pub fn all(&mut self, port: &[f64], rust: &[f64]) -> bool {
+        let before = self.differ;
         port.iter().zip(rust).for_each(|(x, y)| self.one(*x, *y));
+        self.differ == before
     }
 
-    pub fn samples(&mut self, port: &[f32], rust: &[f32]) {
+    pub fn samples(&mut self, port: &[f32], rust: &[f32]) -> bool {
+        let before = self.differ;
         for (x, y) in port.iter().zip(rust) {
             self.one((*x).into(), (*y).into());
         }
+        self.differ == before
     }
 
     /// An answer is no number, but it may differ.

@@ -1,10 +1,13 @@
 //! Tau, the port against the Rust as document 01 completes it, call by call. After each call are compared: what it answers, with the
-//! state and the report, the three lent buffers and the output buffer, these four with some room beyond what was lent. Bits are compared,
+//! state and the report, the four lent buffers and the output buffer, these five with some room beyond what was lent. Bits are compared,
 //! NaN equal to NaN. The Rust's own calls on one engine run beside the reference's, and must come to the same.
 //!
 //! A stream is a run of episodes of one number of partitions, each from a creation on: sound of several kinds, cut into calls of any
 //! length, and between calls now and then a flush, a reset, a call that is to be refused, and a state that no call left, which is called
 //! foreign. From there on the episode counts as foreign.
+//!
+//! The Rust's rule is its own as long as each kept power is the one worked out from its bin (request K10), and the port's powers are
+//! compared with those of the Rust's spectra. Now and then some are made false; until they are gone the Rust's side sums what is kept.
 //!
 //! A call reports the reason of its last block alone (request K2). So there are streams besides in which nearly every call runs one block.
 //!
@@ -29,14 +32,14 @@ mod tau_calls;
 mod tau_lines;
 mod tau_reference;
 
-use aspeyruni::tau::{self, Answer, TauCanceller, BLOCK, NUMBERS};
+use aspeyruni::tau::{self, Answer, TauCanceller, BINS, BLOCK, NUMBERS};
 use branches::Counts;
 use inputs::{bits, bits32, Noise, Random};
 use kinds::*;
 use tally::Tally;
 use tau_calls::REASONS;
 use tau_lines::*;
-use tau_reference::{Continued, Seen, MOST_PAIRS, MOST_PARTITIONS};
+use tau_reference::{are_true, sizes, Continued, Seen, MOST_PAIRS, MOST_PARTITIONS};
 
 /// Partitions and how many blocks, at least, with suppression and as many without.
 const STREAMS: [(usize, u32); 7] = [
@@ -54,6 +57,9 @@ const STREAMS_BY_BLOCKS: [(usize, u32); 2] = [(1, 30_000), (2, 30_000)];
 
 /// So many blocks, at least, have their reasons compared, each reported by a call of its own.
 const REASONS_COMPARED: u64 = 100_000;
+
+/// So often powers are made false, for each number of partitions with suppression and without, besides what streams have of it.
+const FALSE_POWERS: usize = 40;
 
 /// So many creations besides, most of them refused.
 const CREATIONS: usize = 3_000;
@@ -141,23 +147,35 @@ enum Call {
 #[derive(Clone)]
 struct Side {
     state: TauCanceller,
-    buffers: [Vec<f64>; 3],
+    buffers: [Vec<f64>; 4],
     out: Vec<f32>,
 }
 
 /// How much is lent of each buffer.
 #[derive(Clone, Copy)]
 struct Lent {
-    numbers: [usize; 3],
+    numbers: [usize; 4],
     out: usize,
 }
 
 impl Side {
-    fn lent(&mut self, lent: Lent) -> ([&mut [f64]; 3], &mut [f32]) {
-        let [a, b, c] = &mut self.buffers;
-        let [i, j, k] = lent.numbers;
-        let buffers = [&mut a[..i], &mut b[..j], &mut c[..k]];
+    fn lent(&mut self, lent: Lent) -> (tau::Lent<'_>, &mut [f32]) {
+        let buffers = lend(&mut self.buffers, lent.numbers);
         (buffers, &mut self.out[..lent.out])
+    }
+
+    /// The spectra of so many partitions, and their powers.
+    fn kept(&self, partitions: usize) -> [&[f64]; 2] {
+        let [_, _, spectra, powers] = &self.buffers;
+        [
+            &spectra[..NUMBERS * partitions],
+            &powers[..BINS * partitions],
+        ]
+    }
+
+    fn has_true_powers(&self, partitions: usize) -> bool {
+        let [spectra, powers] = self.kept(partitions);
+        are_true(spectra, powers)
     }
 
     fn port(&mut self, call: &Call, lent: Lent) -> Answer {
@@ -240,17 +258,24 @@ fn arrays(s: &TauCanceller) -> Vec<u64> {
 #[derive(Default)]
 struct Tallies {
     create: Tally,
-    process: [Tally; 2],
-    flush: [Tally; 2],
+    /// On a state that calls made, on a foreign one, and on one with false powers.
+    process: [Tally; 3],
+    flush: [Tally; 3],
     reset: Tally,
     answers: [Tally; 7],
+    /// The powers have a wrong length, and all else is right.
+    powers_alone: Tally,
     outcomes: [Tally; 4],
     reasons: [Tally; REASONS.len()],
     /// What went over in the last block: nothing, something.
     overs: [Tally; 2],
     samples: [Tally; STREAMS.len()],
     beyond: Tally,
-    buffers: [Tally; 3],
+    buffers: [Tally; 4],
+    /// The port's powers, against those worked out from its own spectra.
+    squares: Tally,
+    /// A call that false powers end in.
+    true_again: Tally,
     own: Tally,
 }
 
@@ -260,11 +285,16 @@ impl Tallies {
         for (name, tallies) in [("process", &self.process), ("flush", &self.flush)] {
             tallies[0].tell_calls(&format!("tau {name}"));
             tallies[1].tell_calls(&format!("tau {name}, foreign state"));
+            tallies[2].tell_calls(&format!("tau {name}, false powers"));
         }
+        self.true_again
+            .tell_calls("tau false powers, gone after the call");
         self.reset.tell_calls("tau reset");
         for (number, tally) in self.answers.iter().enumerate() {
             tally.tell_calls(&format!("tau answer {number}"));
         }
+        self.powers_alone
+            .tell_calls("tau answer 2, the powers' length alone");
         let outcomes = ["no block", "no move", "rescue", "move"];
         for (name, tally) in outcomes.iter().zip(&self.outcomes) {
             tally.tell_calls(&format!("tau report, {name}"));
@@ -277,10 +307,12 @@ impl Tallies {
             tally.tell(&format!("tau samples, P = {partitions}"));
         }
         self.beyond.tell("tau output buffer beyond the samples");
-        let names = ["shadow weights", "output weights", "far spectra"];
+        let names = ["shadow weights", "output weights", "far spectra", "powers"];
         for (name, tally) in names.iter().zip(&self.buffers) {
             tally.tell(&format!("tau {name}"));
         }
+        self.squares
+            .tell("tau powers, against the squares of the port's spectra");
         self.own
             .tell_calls("tau reference, against the Rust's own calls");
     }
@@ -314,7 +346,7 @@ struct Both {
 fn main() {
     let side = Side {
         state: TauCanceller::zero(),
-        buffers: [Vec::new(), Vec::new(), Vec::new()],
+        buffers: Default::default(),
         out: Vec::new(),
     };
     let mut both = Both {
@@ -332,6 +364,11 @@ fn main() {
         both.creation();
     }
     both.streams(&STREAMS);
+    for (partitions, _) in STREAMS {
+        for suppress in [true, false] {
+            both.falsified(partitions, suppress);
+        }
+    }
     both.is_by_blocks = true;
     both.streams(&STREAMS_BY_BLOCKS);
     for partitions in [1, 2, 1, 2, 1, 2] {
@@ -356,13 +393,13 @@ impl Both {
         samples(self.random.seed(), kind, count)
     }
 
-    /// New buffers for so many partitions, with noise in them.
+    /// New buffers for so many partitions, with noise in them, that of the powers as long as the others.
     fn buffers(&mut self, partitions: usize) {
         self.partitions = partitions;
         let count = NUMBERS * partitions + ROOM;
         self.port = Side {
             state: TauCanceller::zero(),
-            buffers: [0; 3].map(|_| self.noise(SOUND64, count)),
+            buffers: [0; 4].map(|_| self.noise(SOUND64, count)),
             out: Vec::new(),
         };
         self.rust = self.port.clone();
@@ -380,7 +417,7 @@ impl Both {
 
     fn rightly_lent(&self) -> Lent {
         Lent {
-            numbers: [NUMBERS * self.partitions; 3],
+            numbers: sizes(self.partitions),
             out: MOST_PAIRS + ROOM,
         }
     }
@@ -391,12 +428,20 @@ impl Both {
         let right = lent.numbers[0];
         let some = [0, right - 1, right + 1, right - NUMBERS, right + ROOM];
         let wrong = self.random.one_of(&some);
-        match self.random.below(8) {
-            0 => lent.numbers = [wrong; 3],
+        match self.random.below(10) {
+            0 => lent.numbers = [wrong; 4],
             which @ 1..=3 => lent.numbers[which - 1] = wrong,
+            4 => lent.numbers[3] = self.wrong_powers(lent.numbers[3]),
             _ => {}
         }
         lent
+    }
+
+    /// None, one short, one long, a slot short, as many as of spectra, and as many as there are samples.
+    fn wrong_powers(&mut self, right: usize) -> usize {
+        let samples = BLOCK * self.partitions;
+        let some = [0, right - 1, right + 1, right - BINS, 2 * right, samples];
+        self.random.one_of(&some)
     }
 
     /// With suppression and without.
@@ -455,8 +500,32 @@ impl Both {
                     self.hear(echo, blocks);
                 }
             }
+            4..6 => {
+                for _ in 0..1 + self.random.below(3) {
+                    self.hear_falsely();
+                }
+            }
             _ => {}
         }
+    }
+
+    /// From an echo on, false powers again and again.
+    fn falsified(&mut self, partitions: usize, suppress: bool) {
+        self.suppress = suppress;
+        self.buffers(partitions);
+        self.call(&Call::Create(partitions, suppress), self.rightly_lent());
+        self.hear(ECHOES[0], 70);
+        for _ in 0..FALSE_POWERS {
+            self.hear_falsely();
+        }
+    }
+
+    /// An echo over false powers, for fewer blocks than they last, or for more.
+    fn hear_falsely(&mut self) {
+        self.false_powers();
+        let echo = self.random.one_of(&ECHOES);
+        let blocks = 1 + self.random.below(self.partitions + 2);
+        self.hear(echo, blocks);
     }
 
     /// An echo as large as samples get; the far end louder while near is muted, so that both filters diverge; and near muted on, so that
@@ -637,6 +706,39 @@ impl Both {
                 self.rust.buffers[buffer] = numbers;
             }
         }
+        // the powers of what is stored now
+        for Side { buffers, .. } in [&mut self.port, &mut self.rust] {
+            let [_, _, spectra, powers] = lend(buffers, sizes(self.partitions));
+            work_out(spectra, powers);
+        }
+        if self.random.below(if is_wild { 2 } else { 8 }) == 0 {
+            self.false_powers();
+        }
+        self.own_from_here();
+    }
+
+    /// Powers that no call leaves: all over, of one slot, or one alone; the others stay. Half of the time the means are others besides, all
+    /// above 0.
+    fn false_powers(&mut self) {
+        let kind = self.random.one_of(&FALSE64);
+        let slot = BINS * self.random.below(self.partitions);
+        let place = slot + self.random.below(BINS);
+        let [from, to] = self.random.one_of(&[
+            [0, BINS * self.partitions],
+            [0, BINS * self.partitions],
+            [slot, slot + BINS],
+            [place, place + 1],
+        ]);
+        let numbers = self.noise(kind, to - from);
+        for Side { buffers, .. } in [&mut self.port, &mut self.rust] {
+            buffers[3][from..to].copy_from_slice(&numbers);
+        }
+        if self.random.below(2) == 0 {
+            let mut s = self.rust.state;
+            let means = self.noise(POWER64, BINS);
+            s.mic.far_power_mean.copy_from_slice(&means);
+            self.set(s);
+        }
         self.own_from_here();
     }
 
@@ -698,7 +800,7 @@ impl Both {
             _ => self.random.one_of(&KINDS64),
         };
         let recipe = Recipe64::noise(self.random.seed(), kind);
-        recipe.make(array, s, [&mut [], &mut [], &mut []]);
+        recipe.make(array, s, [&mut [], &mut [], &mut [], &mut []]);
     }
 
     /// The call on both sides, with all that is to be compared after it.
@@ -709,23 +811,40 @@ impl Both {
         }
         self.port.out = self.samples(FULL, MOST_PAIRS + 2 * ROOM);
         self.rust.out.clone_from(&self.port.out);
+        let was_true = self.rust.has_true_powers(self.partitions);
         let counts = &mut self.counts;
         let rust = self.rust.rust(call, lent, &mut |seen| counts.see(seen));
         let port = self.port.port(call, lent);
-        self.compare(call, &port, &rust);
+        let is_same = self.compare_buffers(rust.delivered)
+            & (numbers(&port) == numbers(&rust) && arrays(&port.state) == arrays(&rust.state));
+        self.compare(call, &port, &rust, was_true, is_same);
+        if rust.refusal == 2 && lent.numbers[..3] == self.rightly_lent().numbers[..3] {
+            self.tallies.powers_alone.call(is_same);
+        }
+        self.compare_powers(call, was_true, is_same);
         if rust.refusal == 0 {
             self.beside(call, &rust);
         }
     }
 
-    fn compare(&mut self, call: &Call, port: &Answer, rust: &Answer) {
+    /// By what was called and what was answered: whether all is the same, and in the report what the last block did.
+    fn compare(
+        &mut self,
+        call: &Call,
+        port: &Answer,
+        rust: &Answer,
+        was_true: bool,
+        is_same: bool,
+    ) {
         let tallies = &mut self.tallies;
-        let is_same = numbers(port) == numbers(rust) && arrays(&port.state) == arrays(&rust.state);
-        let foreign = usize::from(self.counts.is_foreign);
+        let kind = match was_true {
+            true => usize::from(self.counts.is_foreign),
+            false => 2,
+        };
         let of_call = match call {
             Call::Create(..) => &mut tallies.create,
-            Call::Process(..) => &mut tallies.process[foreign],
-            Call::Flush => &mut tallies.flush[foreign],
+            Call::Process(..) => &mut tallies.process[kind],
+            Call::Flush => &mut tallies.flush[kind],
             Call::Reset => &mut tallies.reset,
         };
         of_call.call(is_same);
@@ -736,18 +855,38 @@ impl Both {
             tallies.reasons[rust.reason as usize].call(is_same);
             tallies.overs[usize::from(rust.overs > 0)].call(port.overs == rust.overs);
         }
-        let (port, rust_side) = (&self.port, &self.rust);
-        let (heard, wanted) = (&port.out, &rust_side.out);
-        let n = rust.delivered;
-        if n > 0 {
+    }
+
+    /// Number by number, and whether all are the same.
+    fn compare_buffers(&mut self, delivered: usize) -> bool {
+        let tallies = &mut self.tallies;
+        let (port, rust) = (&self.port, &self.rust);
+        let (heard, beyond) = port.out.split_at(delivered);
+        let (wanted, beyond_wanted) = rust.out.split_at(delivered);
+        let mut is_same = tallies.beyond.samples(beyond, beyond_wanted);
+        if delivered > 0 {
             let stream = STREAMS.iter().position(|(p, _)| *p == self.partitions);
-            tallies.samples[stream.unwrap()].samples(&heard[..n], &wanted[..n]);
+            is_same &= tallies.samples[stream.unwrap()].samples(heard, wanted);
         }
-        tallies.beyond.samples(&heard[n..], &wanted[n..]);
-        let buffers = port.buffers.iter().zip(&rust_side.buffers);
+        let buffers = port.buffers.iter().zip(&rust.buffers);
         for (tally, (x, y)) in tallies.buffers.iter_mut().zip(buffers) {
-            tally.all(x, y);
+            is_same &= tally.all(x, y);
         }
+        is_same
+    }
+
+    /// Each of the port's powers is the one worked out from its bin where the Rust's are.
+    fn compare_powers(&mut self, call: &Call, was_true: bool, is_same: bool) {
+        if !self.rust.has_true_powers(self.partitions) {
+            return;
+        }
+        if !was_true && !matches!(call, Call::Create(..)) {
+            self.tallies.true_again.call(is_same);
+        }
+        let [spectra, powers] = self.port.kept(self.partitions);
+        let mut squares = vec![0.0; powers.len()];
+        work_out(spectra, &mut squares);
+        self.tallies.squares.all(powers, &squares);
     }
 
     /// The Rust's own call, against the reference's.
@@ -768,13 +907,13 @@ impl Both {
             Call::Process(..) | Call::Flush => self.own.reports(rust),
             _ => true,
         };
-        let n = NUMBERS * rust.state.partitions;
-        let [a, b, c] = &self.rust.buffers;
+        let lent = lend(&mut self.rust.buffers, sizes(rust.state.partitions));
+        let buffers = lent.map(|buffer| &*buffer);
         let same_bits = |(x, y): (&f32, &f32)| bits32(*x) == bits32(*y);
         let is_same = is_reported
             && samples.len() == rust.delivered
             && samples.iter().zip(&self.rust.out).all(same_bits)
-            && self.own.is_at(&rust.state, [&a[..n], &b[..n], &c[..n]]);
+            && self.own.is_at(&rust.state, buffers);
         self.tallies.own.call(is_same);
     }
 }

@@ -21,22 +21,25 @@ mod taken;
 mod tau_calls;
 mod tau_lines;
 mod tau_overs;
+mod tau_powers;
 mod tau_reasons;
 mod tau_reference;
 
 use aspeyruni::tau::*;
 use aspeyruni::MAX_PAIRS;
 use branches::Counts;
-use inputs::{bits, halves, hash32, line, turned, Random};
+use inputs::{bits, halves, hash, hash32, line, turned, Random};
 use kinds::*;
 use recipe::{Recipe, Sounds};
 use taken::Taken;
 use tau_calls::REASONS;
 use tau_lines::*;
-use tau_reference::{Continued, Seen};
+use tau_reference::{sizes, Continued, Seen};
 
 /// The sizes of the program's buffers, of which a call is lent the first part.
 const MOST_NUMBERS: usize = 16456;
+const MOST_POWERS: usize = 8232;
+const MOST_LENT: [usize; 4] = [MOST_NUMBERS, MOST_NUMBERS, MOST_NUMBERS, MOST_POWERS];
 const MOST_PAIRS: usize = 4104;
 
 /// The lines so far, and what they leave to the next.
@@ -44,14 +47,15 @@ struct List {
     text: String,
     random: Random,
     state: TauCanceller,
-    buffers: [Vec<f64>; 3],
+    buffers: [Vec<f64>; 4],
     /// How much is lent of them.
-    lent: [usize; 3],
+    lent: [usize; 4],
     continued: Continued,
     counts: Counts,
-    /// How many calls there are of each letter, and how many answers.
+    /// How many calls there are of each letter, how many answers, and the last.
     calls: [usize; 4],
     answers: [usize; 7],
+    refusal: u32,
     /// How many answers of process and flush there are by their reason, from creation and from a state that a line set, and the last.
     reasons: [[usize; 2]; REASONS.len()],
     reason: u32,
@@ -81,10 +85,6 @@ fn learnt(s: &mut TauCanceller) {
     };
 }
 
-fn lend<'a>([a, b, c]: &'a mut [Vec<f64>; 3], [i, j, k]: [usize; 3]) -> Lent<'a> {
-    [&mut a[..i], &mut b[..j], &mut c[..k]]
-}
-
 /// A call's blocks, counted and kept.
 fn watch<'a>(counts: &'a mut Counts, blocks: &'a mut Vec<Taken>) -> impl FnMut(Seen) + 'a {
     blocks.clear();
@@ -100,13 +100,13 @@ impl List {
     }
 
     /// The state that a call left is the next one's.
-    fn line(&mut self, letter: char, given: [u64; 8], room: usize, answer: Answer, hash: u64) {
+    fn line(&mut self, letter: char, given: [u64; 8], room: usize, answer: Answer, heard: u64) {
         self.state = answer.state;
-        let [i, j, k] = self.lent;
-        let [a, b, c] = &self.buffers;
-        let kept = fields(&answer.state, [&a[..i], &b[..j], &c[..k]]);
+        let [i, j, k, powers] = self.lent;
+        let buffers = lend(&mut self.buffers, self.lent).map(|buffer| &*buffer);
+        let kept = fields(&answer.state, buffers);
         let verdict = [answer.double_talk as usize, answer.outcome as usize];
-        let first = [halves(verdict), bits(answer.leak), hash];
+        let first = [halves(verdict), bits(answer.leak), heard];
         let last = [
             halves([i, j]),
             halves([k, room]),
@@ -114,9 +114,8 @@ impl List {
             answer.transfers,
             answer.divergence_resets,
             halves([answer.reason as usize, answer.overs as usize]),
-            // these two are kept for request K10
-            0,
-            0,
+            powers as u64,
+            hash(buffers[3]),
         ];
         let fields = given.iter().chain(&first).chain(&kept).chain(&last);
         self.text += &line(letter, fields);
@@ -125,6 +124,7 @@ impl List {
 
     fn count(&mut self, letter: char, answer: &Answer) {
         (self.reason, self.overs) = (answer.reason, answer.overs);
+        self.refusal = answer.refusal;
         if let Some(call) = "cpfr".find(letter) {
             self.calls[call] += 1;
             self.answers[answer.refusal as usize] += 1;
@@ -137,23 +137,21 @@ impl List {
     }
 
     /// The Rust's own engine stands where the calls do.
-    fn check(&self) {
+    fn check(&mut self) {
         if self.state.partitions == 0 {
             return;
         }
-        let n = NUMBERS * self.state.partitions;
-        let [a, b, c] = &self.buffers;
-        assert!(self
-            .continued
-            .is_at(&self.state, [&a[..n], &b[..n], &c[..n]]));
+        let lent = lend(&mut self.buffers, sizes(self.state.partitions));
+        let buffers = lent.map(|buffer| &*buffer);
+        assert!(self.continued.is_at(&self.state, buffers));
     }
 
     /// The Rust's own engine from what a line set.
     fn continue_from_here(&mut self) {
         let s = &self.state;
         if (1..=32).contains(&s.partitions) && s.far.head < s.partitions && s.carried < BLOCK {
-            let n = NUMBERS * s.partitions;
-            self.continued = Continued::from(s, lend(&mut self.buffers, [n; 3]));
+            let lent = lend(&mut self.buffers, sizes(s.partitions));
+            self.continued = Continued::from(s, lent);
         }
     }
 
@@ -172,7 +170,7 @@ impl List {
 
     /// With as much of each as it takes.
     fn create(&mut self, partitions: usize, suppress: bool) {
-        self.lent = [NUMBERS * partitions; 3];
+        self.lent = sizes(partitions);
         self.create_any(partitions, suppress);
     }
 
@@ -199,7 +197,7 @@ impl List {
     }
 
     /// What the Rust's own call delivers, and what it reports.
-    fn agree(&self, answer: Answer, out: &[f32], samples: &[f32]) {
+    fn agree(&mut self, answer: Answer, out: &[f32], samples: &[f32]) {
         assert_eq!(answer.delivered, samples.len());
         assert_eq!(hash32(&out[..samples.len()]), hash32(samples));
         assert!(self.continued.reports(&answer));
@@ -331,17 +329,17 @@ impl List {
 }
 
 fn main() {
-    let buffer = vec![0.0; MOST_NUMBERS];
     let mut list = List {
         text: String::new(),
         random: Random(0x2545_f491_4f6c_dd1d),
         state: tau_reference::fresh(1, false),
-        buffers: [buffer.clone(), buffer.clone(), buffer],
-        lent: [NUMBERS; 3],
+        buffers: MOST_LENT.map(|n| vec![0.0; n]),
+        lent: sizes(1),
         continued: Continued::created(1, false),
         counts: Counts::none(),
         calls: [0; 4],
         answers: [0; 7],
+        refusal: 0,
         reasons: [[0; 2]; REASONS.len()],
         reason: 0,
         over: [0; 2],
@@ -386,12 +384,17 @@ fn all(list: &mut List) {
     foreign(list);
     refused_states(list);
     refused_lengths(list);
-    // these came later: at the end, so that the lines before them keep their seeds
+    later(list);
+}
+
+/// At the end, so that the lines before them keep their seeds.
+fn later(list: &mut List) {
     reset_streaks(list);
     refused_without_pairs(list);
     muted(list);
     tau_reasons::all(list);
     tau_overs::all(list);
+    tau_powers::all(list);
 }
 
 /// Creations over buffers that hold something, refused and not, and calls on the state that a refused one gives.
@@ -400,7 +403,7 @@ fn settings(list: &mut List) {
         list.make(array, SOUND64);
     }
     list.create_any(1, true);
-    list.lent = [MOST_NUMBERS; 3];
+    list.lent = MOST_LENT;
     list.make(SHADOW, SOUND64);
     for partitions in [0, 33, usize::MAX] {
         list.create_any(partitions, true);
@@ -408,11 +411,13 @@ fn settings(list: &mut List) {
     list.flush();
     list.reset();
     list.kinds(FULL, FULL, 0.0, 1);
-    for (partitions, lent) in [(2, [1_027, 1_028, 1_028]), (2, [1_028, 1_029, 1_028])] {
-        list.lent = lent;
-        list.create_any(partitions, false);
-    }
-    for (partitions, lent) in [(2, [1_028, 1_028, 0]), (32, [16_449; 3]), (33, [0; 3])] {
+    for (partitions, lent) in [
+        (2, [1_027, 1_028, 1_028, 514]),
+        (2, [1_028, 1_029, 1_028, 514]),
+        (2, [1_028, 1_028, 0, 514]),
+        (32, [16_449, 16_449, 16_449, 8_224]),
+        (33, [0; 4]),
+    ] {
         list.lent = lent;
         list.create_any(partitions, false);
     }
@@ -680,7 +685,7 @@ fn refused_states(list: &mut List) {
             s.mic.detector.double_talk = true;
             change(s);
         });
-        list.lent = [[1_028; 3], [1_027, 0, 514]][i % 2];
+        list.lent = [sizes(2), [1_027, 0, 514, 514]][i % 2];
         match i % 3 {
             0 => list.flush_in(0),
             1 => list.reset(),
@@ -726,10 +731,10 @@ fn refused_lengths(list: &mut List) {
     list.kinds(LOW, FULL, 0.5, 200);
     let right = list.lent;
     for (i, lent) in [
-        [1_027, 1_028, 1_028],
-        [1_028, 1_029, 1_028],
-        [1_028, 1_028, 0],
-        [0; 3],
+        [1_027, 1_028, 1_028, 514],
+        [1_028, 1_029, 1_028, 514],
+        [1_028, 1_028, 0, 514],
+        [0; 4],
     ]
     .into_iter()
     .enumerate()
@@ -742,7 +747,7 @@ fn refused_lengths(list: &mut List) {
             _ => list.process_any(ones(), [4_098, 4_097], 0),
         }
     }
-    list.lent = [1_028, 1_028, 1_029];
+    list.lent = [1_028, 1_028, 1_029, 514];
     list.process_any(ones(), [2, 2], 256);
     list.lent = right;
     list.flush_in(199);

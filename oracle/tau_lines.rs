@@ -2,7 +2,7 @@
 
 #![allow(dead_code)] // a driver uses a part
 
-use crate::aspeyruni::tau::{Detector, Paths, TauCanceller};
+use crate::aspeyruni::tau::{Detector, Lent, Paths, TauCanceller};
 use crate::inputs::{bits, halves, hash, hash32, Noise};
 use crate::inputs::{DIGITS, DIGITS32, SIGN, SIGN32, SIZES};
 use crate::kinds::Kind;
@@ -12,15 +12,19 @@ use crate::tau_reference;
 pub const LOW: Kind = [0x7b << 23, SIGN32 | DIGITS32];
 pub const LOWER: Kind = [0x78 << 23, SIGN32 | DIGITS32];
 
-/// Kinds of f64s, by base and mask: 2^-15 to 2 in size; the same, none negative; 2^113 to 2^129, about the largest f32; 2^1008 to 2^1023;
-/// subnormal; infinite or 1; NaN, not signalling (kinds.rs), or 1.5 to 2.
+/// Kinds of f64s, by base and mask: 2^-15 to 2 in size; the same, none negative; the same, all negative; 2^113 to 2^129, about the largest
+/// f32; 2^1008 to 2^1023; subnormal; infinite or 1; NaN, not signalling (kinds.rs), or 1.5 to 2.
 pub const SOUND64: Kind = [0x3ff << 52, SIGN | SIZES | DIGITS];
 pub const POWER64: Kind = [0x3ff << 52, SIZES | DIGITS];
+pub const NEGATIVE64: Kind = [SIGN | 0x3ff << 52, SIZES | DIGITS];
 pub const OVER64: Kind = [0x47f << 52, SIGN | SIZES | DIGITS];
 pub const LARGE64: Kind = [0x7fe << 52, SIGN | SIZES | DIGITS];
 pub const SUBNORMAL64: Kind = [0, SIGN | DIGITS];
 pub const INFINITE64: Kind = [0x7ff << 52, SIGN | 0x400 << 52];
 pub const NAN64: Kind = [0xfff << 51, SIGN | 0x400 << 52 | DIGITS >> 1];
+
+/// What false powers are made of.
+pub const FALSE64: [Kind; 6] = [NEGATIVE64, LARGE64, NAN64, SOUND64, SUBNORMAL64, INFINITE64];
 
 /// The arrays, by the numbers that a line has for them.
 pub const NEAR_CARRY: u64 = 0;
@@ -34,6 +38,7 @@ pub const ERROR_WINDOW: u64 = 7;
 pub const SHADOW: u64 = 8;
 pub const OUTPUT: u64 = 9;
 pub const SPECTRA: u64 = 10;
+pub const POWERS: u64 = 11;
 
 /// How an array is made: noise, with one number of its own where the array has the place.
 #[derive(Clone, Copy)]
@@ -78,15 +83,11 @@ impl Recipe64 {
         [self.word, base, mask, self.place, self.mark, array, 0, 0]
     }
 
-    pub fn make(self, array: u64, s: &mut TauCanceller, lent: [&mut [f64]; 3]) {
-        let Recipe64 {
-            word,
-            kind: [base, mask],
-            place,
-            mark,
-        } = self;
+    /// With spectra their powers are made, so that these are true. Powers that are made alone are false as a rule.
+    pub fn make(self, array: u64, s: &mut TauCanceller, lent: Lent) {
+        let (word, [base, mask]) = (self.word, self.kind);
         let mut noise = Noise { word, base, mask };
-        let [shadow, output, spectra] = lent;
+        let [shadow, output, spectra, powers] = lent;
         let q = &mut s.mic.suppressor;
         let samples: Option<&mut [f32]> = match array {
             NEAR_CARRY => Some(&mut s.near_carry),
@@ -97,8 +98,8 @@ impl Recipe64 {
         };
         if let Some(samples) = samples {
             samples.fill_with(|| noise.sample());
-            if let Some(x) = samples.get_mut(place as usize) {
-                *x = f32::from_bits(mark as u32);
+            if let Some(x) = samples.get_mut(self.place as usize) {
+                *x = f32::from_bits(self.mark as u32);
             }
             return;
         }
@@ -109,17 +110,36 @@ impl Recipe64 {
             GAIN => &mut q.gain,
             SHADOW => shadow,
             OUTPUT => output,
-            _ => spectra,
+            SPECTRA => &mut *spectra,
+            _ => &mut *powers,
         };
         numbers.fill_with(|| noise.number());
-        if let Some(x) = numbers.get_mut(place as usize) {
-            *x = f64::from_bits(mark);
+        if let Some(x) = numbers.get_mut(self.place as usize) {
+            *x = f64::from_bits(self.mark);
+        }
+        if array == SPECTRA {
+            work_out(spectra, powers);
         }
     }
 }
 
-/// Fields 11 to 38: the numbers of the state that are in no array, then its arrays and what is lent of the buffers.
-pub fn fields(s: &TauCanceller, [shadow, output, spectra]: [&[f64]; 3]) -> Vec<u64> {
+/// Each bin's power from its spectrum (request K10), as far as both go.
+pub fn work_out(spectra: &[f64], powers: &mut [f64]) {
+    for (power, bin) in powers.iter_mut().zip(spectra.chunks_exact(2)) {
+        *power = bin[0] * bin[0] + bin[1] * bin[1];
+    }
+}
+
+/// The first part of each buffer, so much of it.
+pub fn lend(buffers: &mut [Vec<f64>; 4], lent: [usize; 4]) -> Lent<'_> {
+    let [a, b, c, d] = buffers;
+    let [i, j, k, l] = lent;
+    [&mut a[..i], &mut b[..j], &mut c[..k], &mut d[..l]]
+}
+
+/// Fields 11 to 38: the numbers of the state that are in no array, then its arrays and what is lent of the buffers. The powers have a field
+/// of their own behind these, in either list.
+pub fn fields(s: &TauCanceller, [shadow, output, spectra, _]: [&[f64]; 4]) -> Vec<u64> {
     let q = &s.mic.suppressor;
     let arrays = [
         hash32(&s.near_carry),

@@ -2,6 +2,10 @@
 //! lent, and document 01's refusals, of which the Rust has none, come first. So an engine is made for each block, and what is not in the
 //! state, as its scratch, does not come from the block before. `Continued` is the Rust as it is: one engine from call to call, with its
 //! own carry and its own cuts, for which the calls here must come to the same.
+//!
+//! The Rust keeps no powers (request K10). Where each of those that are lent is the one worked out from its bin, the Rust's own rule runs,
+//! which squares the stored spectra, and the powers after it are worked out from the spectra that it left. Where one is false, the rule
+//! runs that sums what is kept (oracle/rust).
 
 #![allow(dead_code)] // a driver uses a part
 
@@ -9,10 +13,11 @@ use crate::aspeyruni::tau::*;
 use crate::canceller::EchoCanceller;
 use crate::config::Suppression;
 use crate::fft::Complex;
+use crate::inputs::{bits, hash};
 use crate::rust_tau::TauCanceller as Engine;
 use crate::taken::Taken;
 use crate::tau_calls::{Blocked, Reason, Told};
-use crate::tau_lines::fields;
+use crate::tau_lines::{fields, work_out};
 
 pub const MOST_PARTITIONS: usize = 32;
 pub const MOST_PAIRS: usize = 4096;
@@ -115,7 +120,7 @@ pub fn reset(state: &TauCanceller, lent: Lent) -> Started {
     }
     let mut engine = set(state);
     load(&mut engine, &lent);
-    engine.reset();
+    reset_all(&mut engine);
     keep_all(&engine, lent);
     Started {
         refusal: 0,
@@ -123,9 +128,14 @@ pub fn reset(state: &TauCanceller, lent: Lent) -> Started {
     }
 }
 
+/// How long the lent buffers have to be.
+pub fn sizes(partitions: usize) -> [usize; 4] {
+    let numbers = NUMBERS * partitions;
+    [numbers, numbers, numbers, BINS * partitions]
+}
+
 fn are_sized(partitions: usize, lent: &Lent) -> bool {
-    lent.iter()
-        .all(|buffer| buffer.len() == NUMBERS * partitions)
+    lent.each_ref().map(|buffer| buffer.len()) == sizes(partitions)
 }
 
 /// 6, then 2.
@@ -174,8 +184,8 @@ fn watched(
     lent: &mut Lent,
     watch: &mut dyn FnMut(Seen),
 ) -> Blocked {
-    let [shadow, output, spectra] = lent;
-    let (blocked, taken) = run_block(state, near, far, valid, !flushes, [shadow, output, spectra]);
+    let lent = lent.each_mut().map(|buffer| &mut **buffer);
+    let (blocked, taken) = run_block(state, near, far, valid, !flushes, lent);
     watch(Seen {
         before: state,
         blocked: &blocked,
@@ -236,7 +246,7 @@ impl Continued {
     }
 
     pub fn reset(&mut self) {
-        self.0.reset();
+        reset_all(&mut self.0);
     }
 
     /// What it reports: the transfers, the resets, and whether there is double talk.
@@ -277,18 +287,12 @@ impl Continued {
     }
 
     /// Whether it stands where this state and these buffers do.
-    pub fn is_at(&self, state: &TauCanceller, buffers: [&[f64]; 3]) -> bool {
-        let [a, b, c] = &self.buffers();
-        let own = fields(&self.state(state), [a, b, c]);
-        own == fields(state, buffers)
-    }
-
-    fn buffers(&self) -> [Vec<f64>; 3] {
-        let e = &self.0;
-        [&e.shadow_weights, &e.output_weights, &e.far_spectra].map(|numbers| {
-            let parts = numbers.iter();
-            parts.flat_map(|x| [x.re, x.im]).collect()
-        })
+    pub fn is_at(&self, state: &TauCanceller, buffers: [&[f64]; 4]) -> bool {
+        let mut own = sizes(self.0.partitions).map(|n| vec![0.0; n]);
+        keep_all(&self.0, own.each_mut().map(|buffer| &mut buffer[..]));
+        let own = own.each_ref().map(|buffer| &buffer[..]);
+        fields(&self.state(state), own) == fields(state, buffers)
+            && hash(own[3]) == hash(buffers[3])
     }
 }
 
@@ -304,12 +308,15 @@ pub fn run_block(
     far: &[f32; BLOCK],
     valid: usize,
     adapt: bool,
-    lent: Lent,
+    mut lent: Lent,
 ) -> (Blocked, Taken) {
     let mut engine = set(state);
     load(&mut engine, &lent);
     engine.run_block(near, far, valid, adapt);
-    keep_all(&engine, lent);
+    keep_all(&engine, lent.each_mut().map(|buffer| &mut **buffer));
+    let [_, _, spectra, powers] = lent;
+    engine.taken.had_false_powers = engine.powers.is_some();
+    engine.taken.has_false_powers = !are_true(spectra, powers);
     let blocked = Blocked {
         state: read_state(&engine, [state.near_carry, state.far_carry], state.carried),
         block: array(&engine.output_block),
@@ -427,20 +434,57 @@ fn complex(numbers: &[f64]) -> Vec<Complex> {
     parts.map(|part| Complex::new(part[0], part[1])).collect()
 }
 
-fn load(engine: &mut Engine, [shadow, output, spectra]: &Lent) {
+fn load(engine: &mut Engine, [shadow, output, spectra, powers]: &Lent) {
     engine.shadow_weights = complex(shadow);
     engine.output_weights = complex(output);
     engine.far_spectra = complex(spectra);
+    engine.powers = (!are_true(spectra, powers)).then(|| powers.to_vec());
 }
 
-fn keep_all(engine: &Engine, [shadow, output, spectra]: Lent) {
+fn keep_all(engine: &Engine, [shadow, output, spectra, powers]: Lent) {
     keep(&engine.shadow_weights, shadow);
     keep(&engine.output_weights, output);
     keep(&engine.far_spectra, spectra);
+    match &engine.powers {
+        Some(kept) => powers.copy_from_slice(kept),
+        None => work_out(spectra, powers),
+    }
 }
 
 fn keep(from: &[Complex], to: &mut [f64]) {
     for (part, x) in to.chunks_exact_mut(2).zip(from) {
         part.copy_from_slice(&[x.re, x.im]);
+    }
+}
+
+/// Whether each power is the one worked out from its bin.
+pub fn are_true(spectra: &[f64], powers: &[f64]) -> bool {
+    let mut worked_out = vec![0.0; powers.len()];
+    work_out(spectra, &mut worked_out);
+    let mut pairs = worked_out.iter().zip(powers);
+    pairs.all(|(x, y)| bits(*x) == bits(*y))
+}
+
+/// The spectra are zeros then, and the powers are what zeros square to.
+fn reset_all(engine: &mut Engine) {
+    engine.reset();
+    engine.powers = None;
+}
+
+/// What oracle/rust has the Rust's block call where it stores a spectrum and where it squares one.
+impl Engine {
+    pub(crate) fn keep_powers(&mut self) {
+        let head = BINS * self.head;
+        if let Some(powers) = &mut self.powers {
+            for (power, x) in powers[head..].iter_mut().zip(&self.spectrum_scratch) {
+                *power = x.re * x.re + x.im * x.im;
+            }
+        }
+    }
+
+    /// The kept one, or where none is kept the square.
+    pub(crate) fn power(&self, place: usize, square: f64) -> f64 {
+        let kept = self.powers.as_ref();
+        kept.map_or(square, |powers| powers[place])
     }
 }
