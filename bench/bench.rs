@@ -58,7 +58,8 @@ const PAIRS_OF_RHO: Plan = Plan {
     things: PAIRS,
 };
 
-/// After enough of them to establish the detector and to move the output to where the shadow is. So no block that is timed moves it.
+/// After enough of them to establish the detector and to move the output to where the shadow is. So no block that is timed moves it, and
+/// each updates the shadow.
 const A_BLOCK: Plan = Plan {
     before: 200,
     batches: 20,
@@ -406,9 +407,12 @@ impl RustTau {
         }
     }
 
+    /// A block without the update would be a fast one.
     fn process(&mut self, near: &[f32], far: &[f32]) {
         self.delivered.clear();
         let Ok(()) = self.engine.process(near, far, &mut self.delivered);
+        let taken = &self.engine.taken;
+        assert!(!taken.diverged && !taken.shadow_diverged && !taken.rescued);
         black_box(&self.delivered);
     }
 }
@@ -416,13 +420,14 @@ impl RustTau {
 /// The port's last answer, with the state in it, the buffers that it is lent, and where it delivers.
 struct PortTau {
     answer: tau::Answer,
-    buffers: [Vec<f64>; 3],
+    buffers: [Vec<f64>; 4],
     out: [f32; BLOCK],
 }
 
 impl PortTau {
     fn created(partitions: usize, suppress: bool) -> PortTau {
-        let mut buffers = [0; 3].map(|_| vec![0.0; SPECTRUM * partitions]);
+        let sizes = [SPECTRUM, SPECTRUM, SPECTRUM, tau::BINS];
+        let mut buffers = sizes.map(|n| vec![0.0; n * partitions]);
         let lent = buffers.each_mut().map(|b| &mut b[..]);
         PortTau {
             answer: tau::create(partitions, suppress, lent).into(),
