@@ -1,14 +1,14 @@
 // Runs Tau's blocks on a list of them, and compares with what the Rust gave (oracle/block_cases.rs). A line is a step on what the lines
-// before it left: the state and the three buffers are kept from line to line.
+// before it left: the state and the four buffers are kept from line to line.
 //
 // A line has 41 fields. A half is 8 digits of a field. The letters are those in steps.rt, and what fields 0 to 7 are for each.
 //
 //     8         the outcome of the last block: 0 none run, 1 no move, 2 a rescue, 3 a move
 //     9         its leak, and 0 where it is no move
 //     10        the hash of what it delivers, all 256 samples; where none is run, of zeros
-//     11 to 38  the state and the three buffers, as many of a buffer's numbers as the partitions have (crate `tau_lines`)
+//     11 to 38  the state and three buffers, as many of a buffer's numbers as the partitions have (crate `tau_lines`)
 //     39        halves: the reason of the last block, 0 to 9 as `reason_number` has them; and its overs
-//     40        kept for the powers of request K10
+//     40        the hash of the powers, as many as the partitions have
 //
 // A field without a use is 0.
 mod got;
@@ -42,6 +42,7 @@ fn main() {
     let mut shadow = [0.0f64; 16448];
     let mut output = [0.0f64; 16448];
     let mut spectra = [0.0f64; 16448];
+    let mut powers = [0.0f64; 8224];
     let mut state = fresh();
     let mut source = cases::fill(SIZE, &mut block);
     let mut tally = cases::none();
@@ -56,6 +57,7 @@ fn main() {
             &mut shadow,
             &mut output,
             &mut spectra,
+            &mut powers,
         );
         tally = turn.tally;
         let after = turn.state;
@@ -74,11 +76,13 @@ fn judged(
     shadow: &mut [f64],
     output: &mut [f64],
     spectra: &mut [f64],
+    powers: &mut [f64],
 ) -> Turn
     requires { ⌜ length (now line) ≡ 699 ⌝ }
     requires { ⌜ length (now shadow) ≡ 16448 ⌝ }
     requires { ⌜ length (now output) ≡ 16448 ⌝ }
     requires { ⌜ length (now spectra) ≡ 16448 ⌝ }
+    requires { ⌜ length (now powers) ≡ 8224 ⌝ }
 {
     if !cases::is_case(line) {
         return refused(tally, state);
@@ -89,6 +93,7 @@ fn judged(
         return refused(tally, state);
     }
     let lent = 514 * partitions;
+    let bins = 257 * partitions;
     taken(
         tally,
         start,
@@ -96,6 +101,7 @@ fn judged(
         &mut shadow[..lent],
         &mut output[..lent],
         &mut spectra[..lent],
+        &mut powers[..bins],
     )
 }
 
@@ -107,10 +113,11 @@ fn taken(
     shadow: &mut [f64],
     output: &mut [f64],
     spectra: &mut [f64],
+    powers: &mut [f64],
 ) -> Turn
     requires { ⌜ length (now line) ≡ 699 ⌝ }
 {
-    let got = done(line, state, shadow, output, spectra);
+    let got = done(line, state, shadow, output, spectra, powers);
     finished(
         tally,
         line,
@@ -118,18 +125,27 @@ fn taken(
         cases::hash_of(shadow),
         cases::hash_of(output),
         cases::hash_of(spectra),
+        cases::hash_of(powers),
     )
 }
 
 // The same, with what the step came to.
-fn finished(tally: Tally, line: &[u8], got: Got, shadow: u64, output: u64, spectra: u64) -> Turn
+fn finished(
+    tally: Tally,
+    line: &[u8],
+    got: Got,
+    shadow: u64,
+    output: u64,
+    spectra: u64,
+    powers: u64,
+) -> Turn
     requires { ⌜ length (now line) ≡ 699 ⌝ }
 {
     let state = got.state;
     if !got.is_known {
         return refused(tally, state);
     }
-    let last = [because(got), 0];
+    let last = [because(got), powers];
     let numbers = fields_of(got, shadow, output, spectra);
     Turn {
         tally: compared(tally, line, last, numbers),

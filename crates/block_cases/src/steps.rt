@@ -3,7 +3,7 @@
 //     n  a new engine: the buffers and the state's arrays are as creation leaves them, and the other numbers of the state those of the
 //        line, fields 11 to 27
 //     s  these numbers alone are set
-//     a  an array is made. 0 to 4: how; 5: which, from 0 on in the order of fields 28 to 38
+//     a  an array is made. 0 to 4: how; 5: which, from 0 on in the order of fields 28 to 38, and 11 the powers (crate `tau_lines`)
 //     b  blocks of a process call. 0 to 2, 3 to 5: how near and far of the first one are made (made.rt); 6, halves: 256, and how many
 //        blocks; 7: the bits of the echo's gain
 //     f  the block of a flush: the same, with the number of its samples for 256, and with 1
@@ -11,12 +11,13 @@ use crate::got::Got;
 use crate::got::after;
 use crate::got::kept;
 use crate::got::unknown;
+use crate::made::Sounds;
 use crate::made::heard;
 use tau_lines::fresh;
 use tau_lines::set;
 use tau_state::state::TauCanceller;
 ghost use mathlib.Core.Path.{_≡_};
-ghost use Prim.Native.Nat.{_≤_};
+ghost use Prim.Native.Nat.{_≤_, _<_};
 ghost use lib.ListN.{length};
 
 // The state that a step starts from.
@@ -37,16 +38,17 @@ pub fn done(
     shadow: &mut [f64],
     output: &mut [f64],
     spectra: &mut [f64],
+    powers: &mut [f64],
 ) -> Got
     requires { ⌜ length (now line) ≡ 699 ⌝ }
 {
     let letter = line[0];
     match letter {
-        b'n' => created(state, shadow, output, spectra),
+        b'n' => created(state, shadow, output, spectra, powers),
         b's' => kept(state),
-        b'a' => made(line, state, shadow, output, spectra),
-        b'b' => run(line, state, true, shadow, output, spectra),
-        b'f' => run(line, state, false, shadow, output, spectra),
+        b'a' => made(line, state, shadow, output, spectra, powers),
+        b'b' => run(line, state, true, shadow, output, spectra, powers),
+        b'f' => run(line, state, false, shadow, output, spectra, powers),
         _ => unknown(state),
     }
 }
@@ -57,10 +59,12 @@ fn created(
     shadow: &mut [f64],
     output: &mut [f64],
     spectra: &mut [f64],
+    powers: &mut [f64],
 ) -> Got {
     cases::noise(0, 0, 0, shadow);
     cases::noise(0, 0, 0, output);
     cases::noise(0, 0, 0, spectra);
+    cases::noise(0, 0, 0, powers);
     kept(state)
 }
 
@@ -70,10 +74,11 @@ fn made(
     shadow: &mut [f64],
     output: &mut [f64],
     spectra: &mut [f64],
+    powers: &mut [f64],
 ) -> Got
     requires { ⌜ length (now line) ≡ 699 ⌝ }
 {
-    let r = tau_lines::remake(line, state, shadow, output, spectra);
+    let r = tau_lines::remake(line, state, shadow, output, spectra, powers);
     let after = r.state;
     if !r.is_known {
         return unknown(after);
@@ -89,6 +94,7 @@ fn run(
     shadow: &mut [f64],
     output: &mut [f64],
     spectra: &mut [f64],
+    powers: &mut [f64],
 ) -> Got
     requires { ⌜ length (now line) ≡ 699 ⌝ }
 {
@@ -105,25 +111,32 @@ fn run(
         let sounds = heard(line, near_seed, far_seed, valid);
         near_seed = sounds.near_seed;
         far_seed = sounds.far_seed;
-        let near = sounds.near;
-        let far = sounds.far;
         let before = last.state;
-        last = block(before, near, far, valid, adapt, shadow, output, spectra);
+        last = block(
+            before,
+            sounds,
+            valid,
+            adapt,
+            shadow,
+            output,
+            spectra,
+            powers,
+        );
         left -= 1;
     }
     last
 }
 
-// One block, where the state and the buffers are such that it may be run.
+// One block, where the state is such that it may be run.
 fn block(
     state: TauCanceller,
-    near: [f32; 256],
-    far: [f32; 256],
+    sounds: Sounds,
     valid: usize,
     adapt: bool,
     shadow: &mut [f64],
     output: &mut [f64],
     spectra: &mut [f64],
+    powers: &mut [f64],
 ) -> Got
     requires { ⌜ valid ≤ 256 ⌝ }
 {
@@ -138,15 +151,46 @@ fn block(
     if partitions <= ring.head {
         return unknown(state);
     }
-    let lent = 514 * partitions;
-    if shadow.len() != lent {
+    lent(state, sounds, valid, adapt, shadow, output, spectra, powers)
+}
+
+// The same, where the buffers are.
+fn lent(
+    state: TauCanceller,
+    sounds: Sounds,
+    valid: usize,
+    adapt: bool,
+    shadow: &mut [f64],
+    output: &mut [f64],
+    spectra: &mut [f64],
+    powers: &mut [f64],
+) -> Got
+    requires { ⌜ (1 ≤ valid) × (valid ≤ 256) × (state .partitions ≤ 32) × (state .far .head < state .partitions) ⌝ }
+{
+    let partitions = state.partitions;
+    let near = sounds.near;
+    let far = sounds.far;
+    if shadow.len() != 514 * partitions {
         return unknown(state);
     }
-    if output.len() != lent {
+    if output.len() != 514 * partitions {
         return unknown(state);
     }
-    if spectra.len() != lent {
+    if spectra.len() != 514 * partitions {
         return unknown(state);
     }
-    after(tau_run::run_block(state, near, far, valid, adapt, shadow, output, spectra))
+    if powers.len() != 257 * partitions {
+        return unknown(state);
+    }
+    after(tau_run::run_block(
+        state,
+        near,
+        far,
+        valid,
+        adapt,
+        shadow,
+        output,
+        spectra,
+        powers,
+    ))
 }

@@ -7,7 +7,7 @@
 //     r  reset
 //     s  no call: the numbers of the state that are in no array are set to those of the line, fields 11 to 27
 //     a  no call: an array of the state, or what is lent of a buffer, is made. 0 to 4: how; 5: which, from 0 on in the order of fields
-//        28 to 38
+//        28 to 38, and 11 the powers (crate `tau_lines`)
 use tau::Answer;
 use tau::Started;
 use tau_state::report::leak_of;
@@ -41,27 +41,34 @@ pub fn called(
     shadow: &mut [f64],
     output: &mut [f64],
     spectra: &mut [f64],
+    powers: &mut [f64],
 ) -> Got
     requires { ⌜ length (now line) ≡ 801 ⌝ }
 {
     let letter = line[0];
     match letter {
-        b'c' => created(line, shadow, output, spectra),
-        b'p' => processed(line, state, shadow, output, spectra),
-        b'f' => flushed(line, state, shadow, output, spectra),
-        b'r' => started(tau::reset(state, shadow, output, spectra)),
+        b'c' => created(line, shadow, output, spectra, powers),
+        b'p' => processed(line, state, shadow, output, spectra, powers),
+        b'f' => flushed(line, state, shadow, output, spectra, powers),
+        b'r' => started(tau::reset(state, shadow, output, spectra, powers)),
         b's' => kept(tau_lines::set(line, state)),
-        b'a' => made(line, state, shadow, output, spectra),
+        b'a' => made(line, state, shadow, output, spectra, powers),
         _ => unknown(state),
     }
 }
 
-fn created(line: &[u8], shadow: &mut [f64], output: &mut [f64], spectra: &mut [f64]) -> Got
+fn created(
+    line: &[u8],
+    shadow: &mut [f64],
+    output: &mut [f64],
+    spectra: &mut [f64],
+    powers: &mut [f64],
+) -> Got
     requires { ⌜ length (now line) ≡ 801 ⌝ }
 {
     let partitions = cases::field(line, 0) as usize;
     let suppress = cases::field(line, 1) != 0;
-    started(tau::create(partitions, suppress, shadow, output, spectra))
+    started(tau::create(partitions, suppress, shadow, output, spectra, powers))
 }
 
 fn made(
@@ -70,10 +77,11 @@ fn made(
     shadow: &mut [f64],
     output: &mut [f64],
     spectra: &mut [f64],
+    powers: &mut [f64],
 ) -> Got
     requires { ⌜ length (now line) ≡ 801 ⌝ }
 {
-    let r = tau_lines::remake(line, state, shadow, output, spectra);
+    let r = tau_lines::remake(line, state, shadow, output, spectra, powers);
     let after = r.state;
     if !r.is_known {
         return unknown(after);
@@ -87,6 +95,7 @@ fn processed(
     shadow: &mut [f64],
     output: &mut [f64],
     spectra: &mut [f64],
+    powers: &mut [f64],
 ) -> Got
     requires { ⌜ length (now line) ≡ 801 ⌝ }
 {
@@ -94,13 +103,7 @@ fn processed(
     let given = cases::high(pairs) as usize;
     let heard = cases::low(pairs) as usize;
     let room = cases::low(cases::field(line, 40)) as usize;
-    if 4104 < given {
-        return unknown(state);
-    }
-    if 4104 < heard {
-        return unknown(state);
-    }
-    if 4104 < room {
+    if 4104 < given || 4104 < heard || 4104 < room {
         return unknown(state);
     }
     let mut near = [0.0f32; 4104];
@@ -115,6 +118,7 @@ fn processed(
         shadow,
         output,
         spectra,
+        powers,
         &near[..given],
         &far[..heard],
         &mut out[..room],
@@ -127,11 +131,12 @@ fn run(
     shadow: &mut [f64],
     output: &mut [f64],
     spectra: &mut [f64],
+    powers: &mut [f64],
     near: &[f32],
     far: &[f32],
     out: &mut [f32],
 ) -> Got {
-    let answer = tau::process(state, shadow, output, spectra, near, far, out);
+    let answer = tau::process(state, shadow, output, spectra, powers, near, far, out);
     answered(answer, cases::hash_of32(out))
 }
 
@@ -141,6 +146,7 @@ fn flushed(
     shadow: &mut [f64],
     output: &mut [f64],
     spectra: &mut [f64],
+    powers: &mut [f64],
 ) -> Got
     requires { ⌜ length (now line) ≡ 801 ⌝ }
 {
@@ -150,7 +156,7 @@ fn flushed(
     }
     let mut out = [0.0f32; 4104];
     stir(&mut out);
-    drained(state, shadow, output, spectra, &mut out[..room])
+    drained(state, shadow, output, spectra, powers, &mut out[..room])
 }
 
 fn drained(
@@ -158,9 +164,10 @@ fn drained(
     shadow: &mut [f64],
     output: &mut [f64],
     spectra: &mut [f64],
+    powers: &mut [f64],
     out: &mut [f32],
 ) -> Got {
-    let answer = tau::flush(state, shadow, output, spectra, out);
+    let answer = tau::flush(state, shadow, output, spectra, powers, out);
     answered(answer, cases::hash_of32(out))
 }
 

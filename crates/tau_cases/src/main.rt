@@ -1,18 +1,18 @@
 // Runs Tau's calls on a list of them, and compares with what the Rust gave (oracle/tau_cases.rs). A line is a call on what the lines
-// before it left: the state and the three buffers are kept from line to line.
+// before it left: the state and the four buffers are kept from line to line.
 //
 // A line has 47 fields. A half is 8 digits of a field. The letters are those in calls.rt, and what fields 0 to 7 are for each.
 //
 //     8         halves, the report: whether there is double talk, and the outcome: 0 no block run, 1 no move, 2 a rescue, 3 a move
 //     9         the report: the move's leak, and 0 where it is no move
 //     10        the hash of what is lent of the output buffer
-//     11 to 38  the state and the three buffers, of these what is lent (crate `tau_lines`)
+//     11 to 38  the state and three buffers, of these what is lent (crate `tau_lines`)
 //     39        halves: how much is lent of the shadow weights, and of the output weights
 //     40        halves: how much is lent of the far spectra, and of the output buffer
 //     41        halves: the refusal, and the number of delivered samples
 //     42, 43    the report: the transfers, and the resets
 //     44        halves, the report: the reason, 0 to 9 as `reason_number` has them; and the overs
-//     45, 46    kept for the powers of request K10: how much is lent of them, and their hash
+//     45, 46    how much is lent of the powers, and the hash of it
 //
 // A field without a use is 0.
 mod calls;
@@ -43,6 +43,7 @@ fn main() {
     let mut shadow = [0.0f64; 16456];
     let mut output = [0.0f64; 16456];
     let mut spectra = [0.0f64; 16456];
+    let mut powers = [0.0f64; 8232];
     let mut state = fresh();
     let mut source = cases::fill(SIZE, &mut block);
     let mut tally = cases::none();
@@ -57,6 +58,7 @@ fn main() {
             &mut shadow,
             &mut output,
             &mut spectra,
+            &mut powers,
         );
         tally = turn.tally;
         let after = turn.state;
@@ -75,11 +77,13 @@ fn judged(
     shadow: &mut [f64],
     output: &mut [f64],
     spectra: &mut [f64],
+    powers: &mut [f64],
 ) -> Turn
     requires { ⌜ length (now line) ≡ 801 ⌝ }
     requires { ⌜ length (now shadow) ≡ 16456 ⌝ }
     requires { ⌜ length (now output) ≡ 16456 ⌝ }
     requires { ⌜ length (now spectra) ≡ 16456 ⌝ }
+    requires { ⌜ length (now powers) ≡ 8232 ⌝ }
 {
     if !cases::is_case(line) {
         return refused(tally, state);
@@ -88,13 +92,11 @@ fn judged(
     let shadows = cases::high(weights) as usize;
     let outputs = cases::low(weights) as usize;
     let slots = cases::high(cases::field(line, 40)) as usize;
-    if 16456 < shadows {
+    let bins = cases::field(line, 45) as usize;
+    if 16456 < shadows || 16456 < outputs {
         return refused(tally, state);
     }
-    if 16456 < outputs {
-        return refused(tally, state);
-    }
-    if 16456 < slots {
+    if 16456 < slots || 8232 < bins {
         return refused(tally, state);
     }
     taken(
@@ -104,6 +106,7 @@ fn judged(
         &mut shadow[..shadows],
         &mut output[..outputs],
         &mut spectra[..slots],
+        &mut powers[..bins],
     )
 }
 
@@ -115,10 +118,11 @@ fn taken(
     shadow: &mut [f64],
     output: &mut [f64],
     spectra: &mut [f64],
+    powers: &mut [f64],
 ) -> Turn
     requires { ⌜ length (now line) ≡ 801 ⌝ }
 {
-    let got = called(line, state, shadow, output, spectra);
+    let got = called(line, state, shadow, output, spectra, powers);
     finished(
         tally,
         line,
@@ -126,11 +130,20 @@ fn taken(
         cases::hash_of(shadow),
         cases::hash_of(output),
         cases::hash_of(spectra),
+        cases::hash_of(powers),
     )
 }
 
 // The same, with what the call came to.
-fn finished(tally: Tally, line: &[u8], got: Got, shadow: u64, output: u64, spectra: u64) -> Turn
+fn finished(
+    tally: Tally,
+    line: &[u8],
+    got: Got,
+    shadow: u64,
+    output: u64,
+    spectra: u64,
+    powers: u64,
+) -> Turn
     requires { ⌜ length (now line) ≡ 801 ⌝ }
 {
     let state = got.state;
@@ -142,8 +155,6 @@ fn finished(tally: Tally, line: &[u8], got: Got, shadow: u64, output: u64, spect
         got.transfers,
         got.divergence_resets,
         halves(got.reason as u64, got.overs),
-        0,
-        0,
     ];
     let first = [
         halves(flag(got.double_talk), got.outcome as u64),
@@ -152,7 +163,7 @@ fn finished(tally: Tally, line: &[u8], got: Got, shadow: u64, output: u64, spect
     ];
     let numbers = numbers_of(first, state, shadow, output, spectra);
     Turn {
-        tally: compared(tally, line, answer, numbers),
+        tally: compared(tally, line, answer, powers, numbers),
         state,
     }
 }
@@ -168,15 +179,19 @@ fn refused(tally: Tally, state: TauCanceller) -> Turn {
     }
 }
 
-// One judgement a line, by the first number that differs: of fields 41 to 46, then of 8 to 38.
-fn compared(tally: Tally, line: &[u8], answer: [u64; 6], got: [u64; 31]) -> Tally
+// One judgement a line, by the first number that differs: of fields 41 to 44, then 46, then of 8 to 38.
+fn compared(tally: Tally, line: &[u8], answer: [u64; 4], powers: u64, got: [u64; 31]) -> Tally
     requires { ⌜ length (now line) ≡ 801 ⌝ }
 {
-    for k in 0..6usize {
+    for k in 0..4usize {
         let want = cases::field(line, 41 + k);
         if answer[k] != want {
             return cases::judge(tally, answer[k], want);
         }
+    }
+    let kept = cases::field(line, 46);
+    if powers != kept {
+        return cases::judge(tally, powers, kept);
     }
     for k in 0..31usize {
         let want = cases::field(line, 8 + k);

@@ -1,6 +1,7 @@
 // An array of the state, or a lent buffer, made anew.
 use crate::made::array;
 use crate::made::array32;
+use crate::made::work_out;
 use tau_state::state::TauCanceller;
 ghost use Prim.Native.Nat.{_≤_};
 ghost use lib.ListN.{length};
@@ -11,13 +12,15 @@ pub struct Remade {
     pub state: TauCanceller,
 }
 
-// By fields 0 to 4 (made.rt), and by 5, which it is, from 0 on in the order of fields 28 to 38.
+// By fields 0 to 4 (made.rt), and by 5, which it is, from 0 on in the order of fields 28 to 38; 11 is the powers. With the spectra their
+// powers are made.
 pub fn remake(
     line: &[u8],
     state: TauCanceller,
     shadow: &mut [f64],
     output: &mut [f64],
     spectra: &mut [f64],
+    powers: &mut [f64],
 ) -> Remade
     requires { ⌜ 665 ≤ length (now line) ⌝ }
 {
@@ -31,7 +34,8 @@ pub fn remake(
         7 => known(with_error_window(line, state)),
         8 => filled(line, state, shadow),
         9 => filled(line, state, output),
-        10 => filled(line, state, spectra),
+        10 => stored(line, state, spectra, powers),
+        11 => filled(line, state, powers),
         _ => Remade {
             is_known: false,
             state,
@@ -50,6 +54,14 @@ fn filled(line: &[u8], state: TauCanceller, buffer: &mut [f64]) -> Remade
     requires { ⌜ 665 ≤ length (now line) ⌝ }
 {
     array(line, buffer);
+    known(state)
+}
+
+fn stored(line: &[u8], state: TauCanceller, spectra: &mut [f64], powers: &mut [f64]) -> Remade
+    requires { ⌜ 665 ≤ length (now line) ⌝ }
+{
+    array(line, spectra);
+    work_out(spectra, powers);
     known(state)
 }
 

@@ -16,6 +16,8 @@
 //     28 to 35  the hashes of near_carry, far_carry, window, far_power_mean, echo_power, error_power, gain, error_window
 //     36 to 38  the hashes of the shadow weights, the output weights and the far spectra, of what is lent
 //
+// The hash of what is lent of the powers stands behind these, in another field in each list.
+//
 // A number of the state is the bits of an f64, and every NaN the same.
 mod arrays;
 mod made;

@@ -62,6 +62,18 @@ pub fn array32(line: &[u8], out: &mut [f32])
     );
 }
 
+// Each bin's power from its spectrum, as far as both go.
+pub fn work_out(spectra: &[f64], powers: &mut [f64]) {
+    let bins = spectra.len() / 2;
+    let mut i = 0usize;
+    while i < powers.len() && i < bins {
+        let re = spectra[2 * i];
+        let im = spectra[2 * i + 1];
+        powers[i] = re * re + im * im;
+        i += 1;
+    }
+}
+
 fn put(place: usize, bits: u32, out: &mut [f32]) {
     if place < out.len() {
         let x = numbers::from_bits32(bits);

@@ -10,12 +10,14 @@ use Rattle.block_cases.proofs.main.Statement.{statement}
 use Rattle.block_cases.proofs.main.Tie as tie
 
 abbrev Inv-loop : tie.InvT-loop
-Inv-loop block₀ shadow₀ output₀ spectra₀ state₀ source₀ tally₀ turns₀ t13 block shadow output spectra state source tally turns =
+Inv-loop block₀ shadow₀ output₀ spectra₀ powers₀ state₀ source₀ tally₀ turns₀ t14 block shadow output spectra powers
+    state source tally turns =
     ((length block ≡ 65536) × (source .at + source .left ≤ 65536))
-    × ((length shadow ≡ 16448) × ((length output ≡ 16448) × (length spectra ≡ 16448)))
+    × (((length shadow ≡ 16448) × (length output ≡ 16448)) × ((length spectra ≡ 16448) × (length powers ≡ 8224)))
 
 abbrev μ-loop : tie.MeasureT-loop
-μ-loop block₀ shadow₀ output₀ spectra₀ state₀ source₀ tally₀ turns₀ t13 block shadow output spectra state source tally turns =
+μ-loop block₀ shadow₀ output₀ spectra₀ powers₀ state₀ source₀ tally₀ turns₀ t14 block shadow output spectra powers
+    state source tally turns =
     turns
 
 pub main-spec : {M : Type 1} → statement M
@@ -32,6 +34,7 @@ main-spec =
     (λ c. search needs)
     (λ c. search needs)
     (λ c. omega (arith, leb-true))
+    (λ c. search needs)
     (λ c. search needs)
     (λ c. search needs)
     (λ c. search needs)

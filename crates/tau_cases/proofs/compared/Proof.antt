@@ -5,16 +5,16 @@ use Rattle.tau_cases.proofs.compared.Statement.{statement}
 use Rattle.tau_cases.proofs.compared.Tie as tie
 
 abbrev Inv-loop : tie.InvT-loop
-Inv-loop tally line answer got k₀ k = k ≤ 6
+Inv-loop tally line powers answer got k₀ k = k ≤ 4
 
 abbrev μ-loop : tie.MeasureT-loop
-μ-loop tally line answer got k₀ k = 6 - k
+μ-loop tally line powers answer got k₀ k = 4 - k
 
 abbrev Inv-loop2 : tie.InvT-loop2
-Inv-loop2 tally line got k₀ k = k ≤ 31
+Inv-loop2 tally line powers kept got k₀ k = k ≤ 31
 
 abbrev μ-loop2 : tie.MeasureT-loop2
-μ-loop2 tally line got k₀ k = 31 - k
+μ-loop2 tally line powers kept got k₀ k = 31 - k
 
 pub compared-spec : {M : Type 1} → statement M
 compared-spec =
@@ -31,6 +31,9 @@ compared-spec =
     (λ c. search needs)
     (λ c. search needs)
     (λ c. search needs)
+    (λ c. search needs)
+    (λ c κs. search needs)
+    (λ c κs. search needs)
     (λ c. search needs)
     (λ c. search needs)
     (λ c. search needs)

@@ -7,12 +7,14 @@ use Rattle.block_cases.proofs.steps.run.Statement.{statement}
 use Rattle.block_cases.proofs.steps.run.Tie as tie
 
 abbrev Inv-loop : tie.InvT-loop
-Inv-loop line adapt shadow₀ output₀ spectra₀ size valid left₀ near-seed₀ far-seed₀ last₀ shadow output
-    spectra left near-seed far-seed last =
-    (length shadow ≡ length shadow₀) × ((length output ≡ length output₀) × (length spectra ≡ length spectra₀))
+Inv-loop line adapt shadow₀ output₀ spectra₀ powers₀ size valid left₀ near-seed₀ far-seed₀ last₀ shadow output
+    spectra powers left near-seed far-seed last =
+    ((length shadow ≡ length shadow₀) × (length output ≡ length output₀))
+    × ((length spectra ≡ length spectra₀) × (length powers ≡ length powers₀))
 
 abbrev μ-loop : tie.MeasureT-loop
-μ-loop line adapt shadow₀ output₀ spectra₀ size valid left₀ near-seed₀ far-seed₀ last₀ shadow output spectra left near-seed far-seed last =
+μ-loop line adapt shadow₀ output₀ spectra₀ powers₀ size valid left₀ near-seed₀ far-seed₀ last₀ shadow output
+    spectra powers left near-seed far-seed last =
     left
 
 pub run-spec : {M : Type 1} → statement M
@@ -31,6 +33,7 @@ run-spec =
     (λ c. search needs)
     (λ c κs. search needs)
     (λ c κs. search needs)
+    (λ c. search needs)
     (λ c. search needs)
     (λ c. search needs)
     (λ c. search needs)
