@@ -9,7 +9,7 @@
  * What a caller has to see to, since no refusal tells of it:
  * - Overlap. What a call writes, the answer's place too, may not overlap a buffer of that call. So there is no work in place: with
  *   out == near_end Tau reads samples that it has just delivered. Frames of 160 pairs show it, frames of 256 happen not to.
- * - A state goes only with its own lent buffers, as its last call left them. Others of the right length are taken for them.
+ * - A state goes only with its own lent buffers, all of them, as its last call left them. Others of the right length are taken for them.
  * - A bool's byte is 0 or 1, also in a state that was read from a file.
  * - Threads. An engine is its state and its lent buffers, and the library has no other memory. So calls of different engines may run at
  *   once; two calls on one engine may not.
@@ -27,10 +27,11 @@
 #include <stddef.h>
 #include <stdint.h>
 
-/* Header and library have to be of one version, and nothing checks it: before 1.0.0 a new minor version may change a struct's layout. */
-#define ASPEYRUNI_VERSION "0.3.0"
+/* Header and library have to be of one version, and nothing checks it: before 1.0.0 a new minor version may change a struct's layout or a
+ * call's arguments. */
+#define ASPEYRUNI_VERSION "0.4.0"
 #define ASPEYRUNI_VERSION_MAJOR 0
-#define ASPEYRUNI_VERSION_MINOR 3
+#define ASPEYRUNI_VERSION_MINOR 4
 #define ASPEYRUNI_VERSION_PATCH 0
 
 /* The most pairs of one call, of either engine. */
@@ -104,8 +105,21 @@ uint32_t aspeyruni_complex_inverse(double *points, size_t points_len);
 #define ASPEYRUNI_BINS 257
 #define ASPEYRUNI_TAU_MAX_PARTITIONS 32 /* and the fewest are 1 */
 
-/* How many numbers each of the three lent buffers has: for each partition its bins, real part then imaginary. */
+/* The four lent buffers, by how many numbers they have. Any other length, of any of them, is refused: ASPEYRUNI_REFUSED_BUFFER.
+ * - shadow, output, spectra: ASPEYRUNI_TAU_NUMBERS each, for each partition its bins, real part then imaginary.
+ * - powers: ASPEYRUNI_TAU_POWERS, the squared size of every bin of spectra. powers[i] is re * re + im * im, where re is spectra[2 * i] and
+ *   im is spectra[2 * i + 1]. (The state's field `powers` is something else.)
+ *
+ * Powers go with their spectra: create and reset write zeros to both, and every block, a flush's too, writes one partition of both. So an
+ * engine is five things, its state and the four buffers. To store it, keep all five as the last call left them, and hand in all five to go
+ * on. For one that was stored before 0.4.0, without powers, work them out as above, each product rounded before the sum: fused they are
+ * other numbers.
+ *
+ * No refusal tells of false powers: they are followed. From true ones a bin's step factor, by which the shadow learns, is 0.02 to 1; where
+ * the bin's powers sum up to -2.0 and its `far_power_mean` is 1.0, it is 4.0. False powers are gone after P blocks, since every block
+ * writes a partition's; what the shadow and `far_power_mean` took from them is not. */
 #define ASPEYRUNI_TAU_NUMBERS(partitions) (2 * ASPEYRUNI_BINS * (size_t)(partitions))
+#define ASPEYRUNI_TAU_POWERS(partitions) (ASPEYRUNI_BINS * (size_t)(partitions))
 
 /* The room for samples that always suffices for a call of so many pairs. A flush is a call of none. */
 #define ASPEYRUNI_TAU_ROOM(pairs) ((size_t)(pairs) + ASPEYRUNI_BLOCK - 1)
@@ -278,21 +292,22 @@ struct aspeyruni_tau_answer {
 };
 
 void aspeyruni_tau_create(struct aspeyruni_tau_started *answer, size_t partitions, bool suppress, double *shadow, size_t shadow_len,
-                          double *output, size_t output_len, double *spectra, size_t spectra_len);
+                          double *output, size_t output_len, double *spectra, size_t spectra_len, double *powers, size_t powers_len);
 
 /* Delivers 256 samples for each block that the pairs fill, to the first places of `out`. `answer` may be the one that the state is
  * from, as in aspeyruni_tau_process(&answer, answer.state, ..): the state is then copied into the call and nowhere else. */
 void aspeyruni_tau_process(struct aspeyruni_tau_answer *answer, struct aspeyruni_tau state, double *shadow, size_t shadow_len,
-                           double *output, size_t output_len, double *spectra, size_t spectra_len, const float *near_end, size_t near_len,
-                           const float *far_end, size_t far_len, float *out, size_t out_len);
+                           double *output, size_t output_len, double *spectra, size_t spectra_len, double *powers, size_t powers_len,
+                           const float *near_end, size_t near_len, const float *far_end, size_t far_len, float *out, size_t out_len);
 
 /* Delivers what waits, at most 255 samples. */
 void aspeyruni_tau_flush(struct aspeyruni_tau_answer *answer, struct aspeyruni_tau state, double *shadow, size_t shadow_len,
-                         double *output, size_t output_len, double *spectra, size_t spectra_len, float *out, size_t out_len);
+                         double *output, size_t output_len, double *spectra, size_t spectra_len, double *powers, size_t powers_len,
+                         float *out, size_t out_len);
 
 /* Keeps the settings and the two counters. */
 void aspeyruni_tau_reset(struct aspeyruni_tau_started *answer, struct aspeyruni_tau state, double *shadow, size_t shadow_len,
-                         double *output, size_t output_len, double *spectra, size_t spectra_len);
+                         double *output, size_t output_len, double *spectra, size_t spectra_len, double *powers, size_t powers_len);
 
 /* ---- RhoCanceller, the time-domain engine: a sample out for each pair, at once
  *

@@ -9,8 +9,8 @@
 //! Two states are the same where their fields are: the bytes between fields hold anything, and may not be compared.
 //!
 //! What a caller has to see to, since neither the compiler nor a refusal tells of it:
-//! - A state goes only with its own lent buffers, as its last call left them. Others of the right length are taken for them, and a state is
-//!   `Copy`: an older copy is accepted with newer buffers.
+//! - A state goes only with its own lent buffers, all of them, as its last call left them. Others of the right length are taken for them,
+//!   and a state is `Copy`: an older copy is accepted with newer buffers.
 //! - Stack. For Tau a thread needs 96 KB to spare, and 160 KB in a build that is not optimised (80 and 140 were measured on x86-64, and
 //!   with `process_on` 62 and 77); for the other calls it needs 16 KB.
 //!
@@ -24,10 +24,10 @@
 #![allow(dead_code)] // a host uses a part
 
 /// This file and the library have to be of one version, and nothing checks it: before 1.0.0 a new minor version may change a struct's
-/// layout.
-pub const VERSION: &str = "0.3.0";
+/// layout or a call's arguments.
+pub const VERSION: &str = "0.4.0";
 pub const VERSION_MAJOR: u32 = 0;
-pub const VERSION_MINOR: u32 = 3;
+pub const VERSION_MINOR: u32 = 4;
 pub const VERSION_PATCH: u32 = 0;
 
 /// The most pairs of one call, of either engine.
@@ -176,7 +176,7 @@ pub fn complex_inverse(points: &mut [f64]) -> u32 {
 pub mod tau {
     pub const BLOCK: usize = 256;
     pub const BINS: usize = 257;
-    /// Of a partition in each lent buffer: its bins, real part then imaginary.
+    /// Of a partition in the weights and in the spectra: its bins, real part then imaginary. In the powers it has `BINS`.
     pub const NUMBERS: usize = 2 * BINS;
     /// And the fewest are 1.
     pub const MAX_PARTITIONS: usize = 32;
@@ -256,8 +256,22 @@ pub mod tau {
         }
     }
 
-    /// The shadow weights, the output weights and the far spectra, each of `NUMBERS` for each partition.
-    pub type Lent<'a> = [&'a mut [f64]; 3];
+    /// How many numbers a partition has in each of the four lent buffers.
+    pub const LENT: [usize; 4] = [NUMBERS, NUMBERS, NUMBERS, BINS];
+
+    /// The shadow weights, the output weights, the far spectra and their powers, each of as many numbers as `LENT` has for it, times the
+    /// partitions. Any other length, of any of the four, is refused: `refusal::BUFFER`.
+    ///
+    /// The powers are the squared sizes of all bins of the spectra: `powers[i]` is `re * re + im * im`, where `re` is `spectra[2 * i]` and
+    /// `im` is `spectra[2 * i + 1]`. (The state's field `powers` is something else.) They go with their spectra: create and reset write
+    /// zeros to both, and every block, a flush's too, writes one partition of both. So an engine is five things, its state and the four
+    /// buffers. To store it, keep all five as the last call left them, and hand in all five to go on. For one that was stored before
+    /// 0.4.0, without powers, work them out as above.
+    ///
+    /// No refusal tells of false powers: they are followed. From true ones a bin's step factor, by which the shadow learns, is 0.02 to 1;
+    /// where the bin's powers sum up to -2.0 and its `far_power_mean` is 1.0, it is 4.0. False powers are gone after P blocks, since every
+    /// block writes a partition's; what the shadow and `far_power_mean` took from them is not.
+    pub type Lent<'a> = [&'a mut [f64]; 4];
 
     #[repr(C)]
     #[derive(Clone, Copy, Debug)]
@@ -384,6 +398,8 @@ pub mod tau {
             output_len: usize,
             spectra: *mut f64,
             spectra_len: usize,
+            powers: *mut f64,
+            powers_len: usize,
         );
         fn aspeyruni_tau_process(
             answer: *mut Answer,
@@ -394,6 +410,8 @@ pub mod tau {
             output_len: usize,
             spectra: *mut f64,
             spectra_len: usize,
+            powers: *mut f64,
+            powers_len: usize,
             near: *const f32,
             near_len: usize,
             far: *const f32,
@@ -410,6 +428,8 @@ pub mod tau {
             output_len: usize,
             spectra: *mut f64,
             spectra_len: usize,
+            powers: *mut f64,
+            powers_len: usize,
             out: *mut f32,
             out_len: usize,
         );
@@ -422,29 +442,37 @@ pub mod tau {
             output_len: usize,
             spectra: *mut f64,
             spectra_len: usize,
+            powers: *mut f64,
+            powers_len: usize,
         );
     }
 
-    pub fn create(partitions: usize, suppress: bool, [shadow, output, spectra]: Lent) -> Started {
-        answer!(aspeyruni_tau_create(partitions, suppress) lent(shadow, output, spectra))
+    pub fn create(
+        partitions: usize,
+        suppress: bool,
+        [shadow, output, spectra, powers]: Lent,
+    ) -> Started {
+        answer!(aspeyruni_tau_create(partitions, suppress) lent(shadow, output, spectra, powers))
     }
 
     /// Delivers 256 samples for each block that the pairs fill, to the first places of `out`.
     pub fn process(
         state: TauCanceller,
-        [shadow, output, spectra]: Lent,
+        [shadow, output, spectra, powers]: Lent,
         near: &[f32],
         far: &[f32],
         out: &mut [f32],
     ) -> Answer {
-        answer!(aspeyruni_tau_process(state) lent(shadow, output, spectra) read(near, far) written(out))
+        answer!(
+            aspeyruni_tau_process(state) lent(shadow, output, spectra, powers) read(near, far) written(out)
+        )
     }
 
     /// `process` from the state of an earlier answer, whose place takes the new one. The state is copied into the call and nowhere
     /// else, which is what a call of a few pairs costs.
     pub fn process_on(
         answer: &mut Answer,
-        [shadow, output, spectra]: Lent,
+        [shadow, output, spectra, powers]: Lent,
         near: &[f32],
         far: &[f32],
         out: &mut [f32],
@@ -460,6 +488,8 @@ pub mod tau {
                 output.len(),
                 spectra.as_mut_ptr(),
                 spectra.len(),
+                powers.as_mut_ptr(),
+                powers.len(),
                 near.as_ptr(),
                 near.len(),
                 far.as_ptr(),
@@ -489,13 +519,17 @@ pub mod tau {
     }
 
     /// Delivers what waits, at most 255 samples.
-    pub fn flush(state: TauCanceller, [shadow, output, spectra]: Lent, out: &mut [f32]) -> Answer {
-        answer!(aspeyruni_tau_flush(state) lent(shadow, output, spectra) written(out))
+    pub fn flush(
+        state: TauCanceller,
+        [shadow, output, spectra, powers]: Lent,
+        out: &mut [f32],
+    ) -> Answer {
+        answer!(aspeyruni_tau_flush(state) lent(shadow, output, spectra, powers) written(out))
     }
 
     /// Keeps the settings and the two counters.
-    pub fn reset(state: TauCanceller, [shadow, output, spectra]: Lent) -> Started {
-        answer!(aspeyruni_tau_reset(state) lent(shadow, output, spectra))
+    pub fn reset(state: TauCanceller, [shadow, output, spectra, powers]: Lent) -> Started {
+        answer!(aspeyruni_tau_reset(state) lent(shadow, output, spectra, powers))
     }
 }
 
