@@ -7,9 +7,10 @@
 #include <stdlib.h>
 #include <string.h>
 
-enum { PARTITIONS = 32, TAPS = 8160, PAIRS = 4096, NUMBERS = 514 * PARTITIONS, STACK = 1 << 20, PAINT = 0xA5 };
+enum { PARTITIONS = 32, NUMBERS = 514 * PARTITIONS, POWERS = 257 * PARTITIONS };
+enum { TAPS = 8160, PAIRS = 4096, STACK = 1 << 20, PAINT = 0xA5 };
 
-static double shadow[NUMBERS], output[NUMBERS], spectra[NUMBERS], spectrum[514];
+static double shadow[NUMBERS], output[NUMBERS], spectra[NUMBERS], powers[POWERS], spectrum[514];
 static float weights[TAPS], history[TAPS], near_end[PAIRS], far_end[PAIRS], out[PAIRS + 255], samples[512];
 static struct aspeyruni_tau_started tau_started;
 static struct aspeyruni_tau_answer tau_answer;
@@ -23,19 +24,23 @@ static void forward(void) { aspeyruni_forward(samples, 512, spectrum, 514); }
 static void inverse(void) { aspeyruni_inverse(spectrum, 514, samples, 512); }
 static void tau_create(void)
 {
-    aspeyruni_tau_create(&tau_started, PARTITIONS, true, shadow, NUMBERS, output, NUMBERS, spectra, NUMBERS);
+    aspeyruni_tau_create(&tau_started, PARTITIONS, true, shadow, NUMBERS, output, NUMBERS, spectra, NUMBERS, powers, POWERS);
     tau_answer.state = tau_started.state;
 }
 static void tau_process(void)
 {
-    aspeyruni_tau_process(&tau_answer, tau_answer.state, shadow, NUMBERS, output, NUMBERS, spectra, NUMBERS, near_end, PAIRS - 1, far_end,
-                          PAIRS - 1, out, sizeof out / sizeof *out);
+    aspeyruni_tau_process(&tau_answer, tau_answer.state, shadow, NUMBERS, output, NUMBERS, spectra, NUMBERS, powers, POWERS, near_end,
+                          PAIRS - 1, far_end, PAIRS - 1, out, sizeof out / sizeof *out);
 }
 static void tau_flush(void)
 {
-    aspeyruni_tau_flush(&tau_answer, tau_answer.state, shadow, NUMBERS, output, NUMBERS, spectra, NUMBERS, out, sizeof out / sizeof *out);
+    aspeyruni_tau_flush(&tau_answer, tau_answer.state, shadow, NUMBERS, output, NUMBERS, spectra, NUMBERS, powers, POWERS, out,
+                        sizeof out / sizeof *out);
 }
-static void tau_reset(void) { aspeyruni_tau_reset(&tau_started, tau_answer.state, shadow, NUMBERS, output, NUMBERS, spectra, NUMBERS); }
+static void tau_reset(void)
+{
+    aspeyruni_tau_reset(&tau_started, tau_answer.state, shadow, NUMBERS, output, NUMBERS, spectra, NUMBERS, powers, POWERS);
+}
 static void rho_create(void)
 {
     aspeyruni_rho_create(&rho_started, 48000, 170, weights, TAPS, history, TAPS);

@@ -8,10 +8,10 @@
 #include <stdio.h>
 #include <string.h>
 
-enum { PARTITIONS = 4, NUMBERS = ASPEYRUNI_TAU_NUMBERS(PARTITIONS) };
+enum { PARTITIONS = 4, NUMBERS = ASPEYRUNI_TAU_NUMBERS(PARTITIONS), POWERS = ASPEYRUNI_TAU_POWERS(PARTITIONS) };
 enum { PAIR = 2 * sizeof(float), PAIRS = ASPEYRUNI_RECORD_MAX_PAYLOAD / PAIR, ROOM = ASPEYRUNI_TAU_ROOM(PAIRS) };
 
-static double shadow[NUMBERS], output[NUMBERS], spectra[NUMBERS];
+static double shadow[NUMBERS], output[NUMBERS], spectra[NUMBERS], powers[POWERS];
 static struct aspeyruni_tau_started started;
 static struct aspeyruni_tau_answer answer; /* of the last call, and in it the engine's state */
 static uint8_t pairs[ASPEYRUNI_RECORD_MAX_PAYLOAD];
@@ -53,8 +53,8 @@ static bool process(size_t count)
     }
     if (!put(ASPEYRUNI_RECORD_PAIRS, pairs, PAIR * count))
         return false;
-    aspeyruni_tau_process(&answer, answer.state, shadow, NUMBERS, output, NUMBERS, spectra, NUMBERS, near_end, count, far_end, count,
-                          out, ROOM);
+    aspeyruni_tau_process(&answer, answer.state, shadow, NUMBERS, output, NUMBERS, spectra, NUMBERS, powers, POWERS, near_end, count,
+                          far_end, count, out, ROOM);
     return put_output();
 }
 
@@ -62,7 +62,7 @@ static bool flush(void)
 {
     if (!put(ASPEYRUNI_RECORD_FLUSH, NULL, 0))
         return false;
-    aspeyruni_tau_flush(&answer, answer.state, shadow, NUMBERS, output, NUMBERS, spectra, NUMBERS, out, ROOM);
+    aspeyruni_tau_flush(&answer, answer.state, shadow, NUMBERS, output, NUMBERS, spectra, NUMBERS, powers, POWERS, out, ROOM);
     return put_output();
 }
 
@@ -71,7 +71,7 @@ static bool reset(void)
 {
     if (!put(ASPEYRUNI_RECORD_RESET, NULL, 0))
         return false;
-    aspeyruni_tau_reset(&started, answer.state, shadow, NUMBERS, output, NUMBERS, spectra, NUMBERS);
+    aspeyruni_tau_reset(&started, answer.state, shadow, NUMBERS, output, NUMBERS, spectra, NUMBERS, powers, POWERS);
     answer.state = started.state;
     return is_accepted(started.refusal);
 }
@@ -104,7 +104,7 @@ int main(int argc, char **argv)
         fputs("box CALL.pairs [CALL.pairs ..] >capture\n", stderr);
         return 2;
     }
-    aspeyruni_tau_create(&started, PARTITIONS, true, shadow, NUMBERS, output, NUMBERS, spectra, NUMBERS);
+    aspeyruni_tau_create(&started, PARTITIONS, true, shadow, NUMBERS, output, NUMBERS, spectra, NUMBERS, powers, POWERS);
     if (!is_accepted(started.refusal))
         return 1;
     answer.state = started.state;

@@ -4,9 +4,10 @@
 #include "aspeyruni.h"
 #include <stdio.h>
 
-enum { PARTITIONS = 4, PAIRS = 1024, NUMBERS = ASPEYRUNI_TAU_NUMBERS(PARTITIONS), ROOM = ASPEYRUNI_TAU_ROOM(PAIRS) };
+enum { PARTITIONS = 4, NUMBERS = ASPEYRUNI_TAU_NUMBERS(PARTITIONS), POWERS = ASPEYRUNI_TAU_POWERS(PARTITIONS) };
+enum { PAIRS = 1024, ROOM = ASPEYRUNI_TAU_ROOM(PAIRS) };
 
-static double shadow[NUMBERS], output[NUMBERS], spectra[NUMBERS];
+static double shadow[NUMBERS], output[NUMBERS], spectra[NUMBERS], powers[POWERS];
 static float pairs[2 * PAIRS], near_end[PAIRS], far_end[PAIRS], out[ROOM];
 
 static bool is_accepted(uint32_t refusal)
@@ -34,7 +35,7 @@ int main(void)
     size_t count;
     int status = 0;
 
-    aspeyruni_tau_create(&started, PARTITIONS, true, shadow, NUMBERS, output, NUMBERS, spectra, NUMBERS);
+    aspeyruni_tau_create(&started, PARTITIONS, true, shadow, NUMBERS, output, NUMBERS, spectra, NUMBERS, powers, POWERS);
     if (!is_accepted(started.refusal))
         return 1;
     answer.state = started.state;
@@ -48,12 +49,12 @@ int main(void)
             near_end[i] = pairs[2 * i];
             far_end[i] = pairs[2 * i + 1];
         }
-        aspeyruni_tau_process(&answer, answer.state, shadow, NUMBERS, output, NUMBERS, spectra, NUMBERS, near_end, count, far_end, count,
-                              out, ROOM);
+        aspeyruni_tau_process(&answer, answer.state, shadow, NUMBERS, output, NUMBERS, spectra, NUMBERS, powers, POWERS, near_end, count,
+                              far_end, count, out, ROOM);
         if (!give(&answer))
             return 1;
     } while (count == PAIRS);
-    aspeyruni_tau_flush(&answer, answer.state, shadow, NUMBERS, output, NUMBERS, spectra, NUMBERS, out, ROOM);
+    aspeyruni_tau_flush(&answer, answer.state, shadow, NUMBERS, output, NUMBERS, spectra, NUMBERS, powers, POWERS, out, ROOM);
     if (!give(&answer))
         return 1;
     if (fclose(stdout) != 0) { /* what stdio still held is written here, and a full disk shows */

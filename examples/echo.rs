@@ -12,6 +12,7 @@ use std::process::ExitCode;
 
 const PARTITIONS: usize = 4;
 const NUMBERS: usize = tau::NUMBERS * PARTITIONS;
+const POWERS: usize = tau::BINS * PARTITIONS;
 const READ: usize = 8 * MAX_PAIRS;
 
 fn accepted(number: u32) -> Result<(), String> {
@@ -38,14 +39,16 @@ fn pairs_of(bytes: &[u8]) -> (Vec<f32>, Vec<f32>) {
 
 fn run(mut from: impl Read, mut to: impl Write) -> Result<(), String> {
     let [shadow, output, spectra] = &mut [[0.0; NUMBERS]; 3];
+    let powers = &mut [0.0; POWERS];
     let mut out = [0.0; tau::room(MAX_PAIRS)];
-    let mut answer: Answer = tau::create(PARTITIONS, true, [shadow, output, spectra]).into();
-    accepted(answer.refusal)?;
+    let started = tau::create(PARTITIONS, true, [shadow, output, spectra, powers]);
+    accepted(started.refusal)?;
+    let mut answer: Answer = started.into();
     let end = loop {
         let mut bytes = Vec::with_capacity(READ);
         let read = from.by_ref().take(READ as u64).read_to_end(&mut bytes);
         let (near, far) = pairs_of(&bytes); // after a failed read too: what was read is delivered
-        let lent = [&mut shadow[..], &mut output[..], &mut spectra[..]];
+        let lent = [&mut shadow[..], &mut output[..], &mut spectra[..], powers];
         tau::process_on(&mut answer, lent, &near, &far, &mut out);
         give(&answer, &out, &mut to)?;
         match read {
@@ -54,7 +57,7 @@ fn run(mut from: impl Read, mut to: impl Write) -> Result<(), String> {
             Err(why) => break Err(format!("a read failed: {why}")),
         }
     };
-    let last = tau::flush(answer.state, [shadow, output, spectra], &mut out);
+    let last = tau::flush(answer.state, [shadow, output, spectra, powers], &mut out);
     give(&last, &out, &mut to)?;
     to.flush().map_err(|why| format!("a write failed: {why}"))?;
     end

@@ -22,6 +22,7 @@
 enum {
     PARTITIONS = 4,
     NUMBERS = ASPEYRUNI_TAU_NUMBERS(PARTITIONS),
+    POWERS = ASPEYRUNI_TAU_POWERS(PARTITIONS),
     FRAME = 160,
     SILENCE = ASPEYRUNI_BLOCK - 32,
     QUEUE = SILENCE + FRAME,
@@ -29,7 +30,7 @@ enum {
     SAMPLE_BYTES = 2
 };
 
-static double shadow[NUMBERS], output[NUMBERS], spectra[NUMBERS];
+static double shadow[NUMBERS], output[NUMBERS], spectra[NUMBERS], powers[POWERS];
 static struct aspeyruni_tau_answer answer; /* of the last call, with the engine's state */
 static float queue[QUEUE];
 static size_t queued = SILENCE;
@@ -84,7 +85,7 @@ static bool start(void)
 {
     static struct aspeyruni_tau_started started;
 
-    aspeyruni_tau_create(&started, PARTITIONS, true, shadow, NUMBERS, output, NUMBERS, spectra, NUMBERS);
+    aspeyruni_tau_create(&started, PARTITIONS, true, shadow, NUMBERS, output, NUMBERS, spectra, NUMBERS, powers, POWERS);
     answer.state = started.state;
     return is_accepted(started.refusal);
 }
@@ -97,14 +98,15 @@ static bool take(const unsigned char *bytes, size_t pairs)
         near_end[i] = sample_of(bytes + PAIR_BYTES * i);
         far_end[i] = sample_of(bytes + PAIR_BYTES * i + SAMPLE_BYTES);
     }
-    aspeyruni_tau_process(&answer, answer.state, shadow, NUMBERS, output, NUMBERS, spectra, NUMBERS, near_end, pairs, far_end, pairs,
-                          queue + queued, QUEUE - queued);
+    aspeyruni_tau_process(&answer, answer.state, shadow, NUMBERS, output, NUMBERS, spectra, NUMBERS, powers, POWERS, near_end, pairs,
+                          far_end, pairs, queue + queued, QUEUE - queued);
     return note_answer();
 }
 
 static bool flush(void)
 {
-    aspeyruni_tau_flush(&answer, answer.state, shadow, NUMBERS, output, NUMBERS, spectra, NUMBERS, queue + queued, QUEUE - queued);
+    aspeyruni_tau_flush(&answer, answer.state, shadow, NUMBERS, output, NUMBERS, spectra, NUMBERS, powers, POWERS, queue + queued,
+                        QUEUE - queued);
     return note_answer();
 }
 

@@ -5,9 +5,10 @@
 #include "aspeyruni.h"
 #include <stdio.h>
 
-enum { PARTITIONS = 4, NUMBERS = ASPEYRUNI_TAU_NUMBERS(PARTITIONS), TAPS = 300, PATHS = 9, AFTER = 150 };
+enum { PARTITIONS = 4, NUMBERS = ASPEYRUNI_TAU_NUMBERS(PARTITIONS), POWERS = ASPEYRUNI_TAU_POWERS(PARTITIONS) };
+enum { TAPS = 300, PATHS = 9, AFTER = 150 };
 
-static double shadow[NUMBERS], output[NUMBERS], spectra[NUMBERS];
+static double shadow[NUMBERS], output[NUMBERS], spectra[NUMBERS], powers[POWERS];
 static struct aspeyruni_tau_started started;
 static struct aspeyruni_tau_answer answer;
 static double path[TAPS];
@@ -53,8 +54,8 @@ static bool passes(bool is_muted)
         if (is_muted)
             near_end[i] = 0.0f;
     }
-    aspeyruni_tau_process(&answer, answer.state, shadow, NUMBERS, output, NUMBERS, spectra, NUMBERS, near_end, ASPEYRUNI_BLOCK, far_end,
-                          ASPEYRUNI_BLOCK, out, ASPEYRUNI_BLOCK);
+    aspeyruni_tau_process(&answer, answer.state, shadow, NUMBERS, output, NUMBERS, spectra, NUMBERS, powers, POWERS, near_end,
+                          ASPEYRUNI_BLOCK, far_end, ASPEYRUNI_BLOCK, out, ASPEYRUNI_BLOCK);
     return energy_of(out) >= energy_of(near_end) / 4.0;
 }
 
@@ -73,7 +74,7 @@ static void start(int seed, bool suppress)
         path[i] = size * noise();
         history[i] = 0.0f;
     }
-    aspeyruni_tau_create(&started, PARTITIONS, suppress, shadow, NUMBERS, output, NUMBERS, spectra, NUMBERS);
+    aspeyruni_tau_create(&started, PARTITIONS, suppress, shadow, NUMBERS, output, NUMBERS, spectra, NUMBERS, powers, POWERS);
     answer.state = started.state;
 }
 
