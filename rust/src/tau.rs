@@ -1,20 +1,20 @@
 //! The owner of the block engine's state and buffers.
 
-use crate::raw::tau::{self, reason, Answer, Lent, TauCanceller, NUMBERS};
+use crate::raw::tau::{self, reason, Answer, Lent, TauCanceller, LENT};
 use crate::refusal::{accepted, Refusal};
 use std::fmt;
 
 /// The block engine. It delivers 256 samples whenever 256 pairs are together, and models echo of up to 256 samples for each partition.
 ///
-/// It owns its state and its three buffers, so of refusals 1 to 6 `process` gives 3, 4 and 5, `flush` gives 5 and `reset` none. What it
+/// It owns its state and its four buffers, so of refusals 1 to 6 `process` gives 3, 4 and 5, `flush` gives 5 and `reset` none. What it
 /// can cancel, and what stack a call takes, stands at [`raw`](crate::raw) and [`raw::tau`](crate::raw::tau).
 #[derive(Clone)]
 pub struct Tau {
     /// The last call's answer, with the state in it. It stays where it is: a state has some 14 KB, which `process_on` copies into the call
     /// and nowhere else.
     answer: Box<Answer>,
-    /// The shadow weights, the output weights and the far spectra.
-    buffers: [Vec<f64>; 3],
+    /// The shadow weights, the output weights, the far spectra and their powers.
+    buffers: [Vec<f64>; 4],
 }
 
 /// What a call of [`Tau`] delivered, and how the engine then stands.
@@ -157,11 +157,11 @@ impl Tau {
     pub fn new(partitions: usize, suppress: bool) -> Result<Tau, Refusal> {
         // With nothing lent the library answers 1 where it refuses the setting, else 2. So it judges the setting, before there is a
         // buffer of that size.
-        let asked = tau::create(partitions, suppress, [&mut [], &mut [], &mut []]);
+        let asked = tau::create(partitions, suppress, [&mut [], &mut [], &mut [], &mut []]);
         if asked.refusal == Refusal::Setting.number() {
             return Err(Refusal::Setting);
         }
-        let mut buffers = [0; 3].map(|_| vec![0.0; NUMBERS * partitions]);
+        let mut buffers = LENT.map(|numbers| vec![0.0; numbers * partitions]);
         let started = tau::create(partitions, suppress, lend(&mut buffers));
         accepted(started.refusal)?;
         Ok(Tau {
@@ -172,9 +172,12 @@ impl Tau {
 
     /// An engine that goes on from a stored state and its buffers, as [`state`](Tau::state) and [`buffers`](Tau::buffers) gave them.
     /// It is refused with [`Refusal::State`] where a number of the state is outside its range, and with [`Refusal::Buffer`] where
-    /// a buffer has not 514 numbers for each partition. Any float is accepted, and other buffers of that length are taken for the
-    /// state's own. Once it is accepted, it is as good as a new one: no later call is refused for its state or its buffers.
-    pub fn from_parts(state: &TauCanceller, buffers: [Vec<f64>; 3]) -> Result<Tau, Refusal> {
+    /// a buffer has not 514 numbers for each partition, or the last one not 257. Once it is accepted, it is as good as a new one: no later
+    /// call is refused for its state or its buffers.
+    ///
+    /// Any float is accepted, and other buffers of these lengths are taken for the state's own. So are powers that are not those of the
+    /// spectra; what comes of them, and how to work out true ones, stands at [`Lent`].
+    pub fn from_parts(state: &TauCanceller, buffers: [Vec<f64>; 4]) -> Result<Tau, Refusal> {
         let mut buffers = buffers;
         // A process of no pairs is refused as any other, and else changes nothing.
         let answer = tau::process(*state, lend(&mut buffers), &[], &[], &mut []);
@@ -242,15 +245,16 @@ impl Tau {
         self.state().carried
     }
 
-    /// The whole state, to be looked at or stored.
+    /// The whole state, to be looked at, or stored with all of the buffers.
     #[must_use]
     pub fn state(&self) -> &TauCanceller {
         &self.answer.state
     }
 
-    /// The shadow weights, the output weights and the far spectra, each of 514 numbers for each partition, to be looked at or stored.
+    /// The shadow weights, the output weights and the far spectra, each of 514 numbers for each partition, and the powers of these spectra,
+    /// of 257, to be looked at, or stored with the state.
     #[must_use]
-    pub fn buffers(&self) -> [&[f64]; 3] {
+    pub fn buffers(&self) -> [&[f64]; 4] {
         self.buffers.each_ref().map(Vec::as_slice)
     }
 
@@ -270,7 +274,7 @@ impl Tau {
     }
 }
 
-fn lend(buffers: &mut [Vec<f64>; 3]) -> Lent<'_> {
+fn lend(buffers: &mut [Vec<f64>; 4]) -> Lent<'_> {
     buffers.each_mut().map(Vec::as_mut_slice)
 }
 

@@ -87,9 +87,9 @@ fn engine(suppress: bool, heard: &[[f32; BLOCK]], weights: [Vec<f64>; 2]) -> Tau
     for far in heard {
         assert_eq!(process(&mut tau, &SILENCE, far).overs, 0);
     }
-    let [.., spectra] = tau.buffers().map(<[f64]>::to_vec);
+    let [.., spectra, powers] = tau.buffers().map(<[f64]>::to_vec);
     let [shadow, output] = weights;
-    Tau::from_parts(tau.state(), [shadow, output, spectra]).unwrap()
+    Tau::from_parts(tau.state(), [shadow, output, spectra, powers]).unwrap()
 }
 
 fn process(tau: &mut Tau, near: &[f32], far: &[f32]) -> Report {
@@ -153,9 +153,10 @@ fn the_update_counts() {
 #[test]
 fn the_suppressor_counts_where_it_runs() {
     for (suppress, overs) in [(false, 0), (true, 1)] {
-        let mut state = *Tau::new(1, suppress).unwrap().state();
+        let fresh = Tau::new(1, suppress).unwrap();
+        let mut state = *fresh.state();
         state.mic.suppressor.gain = [4.0 * BEYOND; BINS];
-        let mut tau = Tau::from_parts(&state, [none(), none(), none()]).unwrap();
+        let mut tau = Tau::from_parts(&state, fresh.buffers().map(<[f64]>::to_vec)).unwrap();
         let report = process(&mut tau, &impulse(7, 1.0), &impulse(0, 0.5));
         assert_eq!(report.overs, overs, "suppression {suppress}");
     }
@@ -186,11 +187,11 @@ fn a_call_without_a_block_says_0() {
 /// The one before is not told again.
 #[test]
 fn a_refused_call_says_0() {
-    let mut buffers = [constant(BEYOND), none(), none()];
-    let state = *Tau::new(1, false).unwrap().state();
+    let large = engine(false, &[], [constant(BEYOND), none()]);
+    let mut buffers = large.buffers().map(<[f64]>::to_vec);
     let mut out = [0.0; BLOCK];
     let lent = buffers.each_mut().map(Vec::as_mut_slice);
-    let mut answer = tau::process(state, lent, &SILENCE, &ONES, &mut out);
+    let mut answer = tau::process(*large.state(), lent, &SILENCE, &ONES, &mut out);
     assert_eq!((answer.refusal, answer.overs), (0, 512));
     let lent = buffers.each_mut().map(Vec::as_mut_slice);
     tau::process_on(&mut answer, lent, &SILENCE, &[], &mut out);

@@ -1,7 +1,7 @@
 //! The engines' six refusals through the owners: each where it can occur, and a call that is refused changes nothing, neither the engine
 //! nor the output buffer. Those of records are in records.rs.
 
-use aspeyruni::raw::tau::NUMBERS;
+use aspeyruni::raw::tau::{LENT, NUMBERS};
 use aspeyruni::{Refusal, Rho, RhoReport, Tau, MAX_PAIRS};
 
 const NOISE: f32 = 0.625;
@@ -159,7 +159,8 @@ fn settings_at_the_ends_of_their_ranges_are_accepted() {
     for partitions in [1, 32] {
         let tau = Tau::new(partitions, false).unwrap();
         assert_eq!((tau.partitions(), tau.suppress()), (partitions, false));
-        assert_eq!(tau.buffers().map(<[f64]>::len), [NUMBERS * partitions; 3]);
+        let lengths = LENT.map(|numbers| numbers * partitions);
+        assert_eq!(tau.buffers().map(<[f64]>::len), lengths);
     }
     for (rate, tail, taps) in [(8_000, 0, 1), (8_000, 1_000, 8_000), (48_000, 170, 8_160)] {
         let rho = Rho::new(rate, tail).unwrap();
@@ -173,8 +174,8 @@ fn settings_at_the_ends_of_their_ranges_are_accepted() {
 #[test]
 fn parts_with_a_buffer_of_another_length_are_refused() {
     let (tau, rho) = (tau(), rho());
-    for length in [0, NUMBERS, 2 * NUMBERS - 1, 2 * NUMBERS + 1] {
-        for which in 0..3 {
+    for (which, numbers) in LENT.into_iter().enumerate() {
+        for length in [0, numbers, 2 * numbers - 1, 2 * numbers + 1, 4 * numbers] {
             let mut buffers = tau.buffers().map(<[f64]>::to_vec);
             buffers[which].resize(length, 0.0);
             let refusal = Tau::from_parts(tau.state(), buffers).unwrap_err();
