@@ -1,10 +1,10 @@
 //! Tau's list. What the fields of a line are: crates/tau_cases/src/main.rt, calls.rt and crates/tau_lines/src/lib.rt.
 
-use crate::inputs::{bits, halves, hash32};
+use crate::inputs::{bits, halves, hash, hash32};
 use crate::kinds::FULL;
 use crate::line::{lines, Line};
 use crate::recipe::{Recipe, Sounds};
-use crate::tau_lines::{fields, Recipe64};
+use crate::tau_lines::{fields, lend, Recipe64};
 use crate::Owned;
 use aspeyruni::raw::tau::{self, outcome, reason, Answer, Detector, Guard};
 use aspeyruni::raw::tau::{Paths, Powers, Started, TauCanceller};
@@ -13,13 +13,13 @@ use aspeyruni::{Outcome, Reason, Refusal, Report, Tau};
 const LIST: &str = include_str!("../../../crates/tau_cases/stdin");
 
 /// The sizes of the buffers of which a line lends the first part.
-const MOST_NUMBERS: usize = 16456;
+const MOST_NUMBERS: [usize; 4] = [16456, 16456, 16456, 8232];
 const MOST_SAMPLES: usize = 4104;
 
 /// What a line leaves to the next, through `raw` and in an owner, where there is one.
 struct Replay {
     state: TauCanceller,
-    buffers: [Vec<f64>; 3],
+    buffers: [Vec<f64>; 4],
     owner: Option<Tau>,
     owned: Owned,
 }
@@ -32,7 +32,7 @@ fn every_line_comes_to_its_answer() {
     let lines = lines(LIST, 47);
     let mut replay = Replay {
         state: *Tau::new(1, false).unwrap().state(),
-        buffers: [0; 3].map(|_| vec![0.0; MOST_NUMBERS]),
+        buffers: MOST_NUMBERS.map(|most| vec![0.0; most]),
         owner: None,
         owned: Owned::default(),
     };
@@ -47,13 +47,13 @@ fn every_line_comes_to_its_answer() {
     assert_eq!(replay.owned, owned);
 }
 
-fn lent(line: &Line) -> [usize; 3] {
-    [line.high(39), line.low(39), line.high(40)]
+fn lent(line: &Line) -> [usize; 4] {
+    let powers = line.fields[45] as usize;
+    [line.high(39), line.low(39), line.high(40), powers]
 }
 
-fn parts<'a>([a, b, c]: &'a mut [Vec<f64>; 3], line: &Line) -> tau::Lent<'a> {
-    let [i, j, k] = lent(line);
-    [&mut a[..i], &mut b[..j], &mut c[..k]]
+fn parts<'a>(buffers: &'a mut [Vec<f64>; 4], line: &Line) -> tau::Lent<'a> {
+    lend(buffers, lent(line))
 }
 
 /// Noise, so that it shows where nothing is written.
@@ -169,17 +169,17 @@ impl Replay {
         }
     }
 
-    /// Fields 8 to 38 and 41 to 46, and that the outcome is the one that the reason has.
+    /// Fields 8 to 38, 41 to 44 and 46, and that the outcome is the one that the reason has.
     fn compare_raw(&mut self, line: &Line, answer: Answer, hash: u64) {
         self.state = answer.state;
         let buffers = parts(&mut self.buffers, line).map(|buffer| &*buffer);
         let verdict = [answer.double_talk.into(), answer.outcome as usize];
         line.compare("raw", 8, &[halves(verdict), bits(answer.leak), hash]);
-        line.compare("raw", 11, &fields(&answer.state, buffers));
+        compare_engine(line, "raw", &answer.state, buffers);
         let first = halves([answer.refusal as usize, answer.delivered]);
         let last = [first, answer.transfers, answer.divergence_resets];
         line.compare("raw", 41, &last);
-        line.compare("raw", 44, &because(answer.reason, answer.overs));
+        line.compare("raw", 44, &[because(answer.reason, answer.overs)]);
         let outcome = outcome_of(answer.reason);
         assert_eq!(answer.outcome, outcome, "line {}", line.number);
     }
@@ -189,7 +189,7 @@ impl Replay {
         self.owned.taken += 1;
         line.compare("its owner", 10, &[hash]);
         if let Some(tau) = &self.owner {
-            line.compare("its owner", 11, &fields(tau.state(), tau.buffers()));
+            compare_engine(line, "its owner", tau.state(), tau.buffers());
         }
         match answer {
             Ok(report) => compare_report(line, report),
@@ -198,6 +198,12 @@ impl Replay {
             }
         }
     }
+}
+
+/// Fields 11 to 38, and the powers' field 46.
+fn compare_engine(line: &Line, by: &str, state: &TauCanceller, buffers: [&[f64]; 4]) {
+    line.compare(by, 11, &fields(state, buffers));
+    line.compare(by, 46, &[hash(buffers[3])]);
 }
 
 fn call(tau: &mut Tau, line: &Line) -> Called {
@@ -240,14 +246,14 @@ fn compare_report(line: &Line, report: Option<Report>) {
     let last = [delivered, report.transfers, report.divergence_resets];
     line.compare("its owner", 41, &last);
     let because = because(report.reason.number(), report.overs);
-    line.compare("its owner", 44, &because);
+    line.compare("its owner", 44, &[because]);
     let outcome = report.reason.outcome();
     assert_eq!(report.outcome, outcome, "line {}", line.number);
 }
 
-/// Fields 44 to 46: the reason and how many samples went over in the halves of the first; the rest has no use yet.
-fn because(reason: u32, overs: u32) -> [u64; 3] {
-    [halves([reason as usize, overs as usize]), 0, 0]
+/// Field 44: the reason, and how many samples went over.
+fn because(reason: u32, overs: u32) -> u64 {
+    halves([reason as usize, overs as usize])
 }
 
 /// By the numbers that the library has for both.
