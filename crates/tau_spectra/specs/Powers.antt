@@ -2,7 +2,7 @@
 -- of that. Definitions only.
 use mathlib.Core.List.{List}
 use mathlib.Core.Path.{_≡_}
-use Prim.Native.Nat.{ℕ, _<_}
+use Prim.Native.Nat.{ℕ, _+_, _<_}
 use lib.ListN.{getD, replicate}
 use lib.Ieee.{Float, nan, binary64, add}
 use Rattle.laws.specs.Loops.{iter, over}
@@ -19,7 +19,13 @@ powersOf spectrum = table 257 (powerAt spectrum)
 unfoldable pub keptPowerTo : List Float → ℕ → List Float
 keptPowerTo powers n = iter (λ slot sum. over 257 (λ k a. add binary64 a (getD (part 257 slot powers) k nan)) sum) (replicate 257 zero64) n
 
--- the same worked out from the spectra, as the Rust does in every block that adapts
+-- what bin k of four slots that follow each other adds to its sum; only the code's function that takes four at once goes by it
+unfoldable pub fourOn : List Float → ℕ → Float → Float
+fourOn powers k sum =
+    add binary64 (add binary64 (add binary64 (add binary64 sum (getD powers k nan)) (getD powers (257 + k) nan)) (getD powers (514 + k) nan))
+    (getD powers (771 + k) nan)
+
+-- the far power worked out from the spectra, as the Rust does in every block that adapts
 unfoldable pub farPowerTo : List Float → ℕ → List Float
 farPowerTo spectra n = iter (λ slot sum. over 257 (λ k a. add binary64 a (powerAt (part 514 slot spectra) k)) sum) (replicate 257 zero64) n
 

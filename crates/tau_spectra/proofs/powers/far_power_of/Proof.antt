@@ -18,7 +18,8 @@ unfolding keptPowerTo
 far-power-of-spec =
     tie.close
     (tie.spec Inv-loop μ-loop
-    (λ c. search (needs, loops))
+    (λ c κs. search needs)
+    (λ c. (c .add-fours .ensures .1, c .add-fours .ensures .0))
     (λ c. search needs)
     (λ c. search needs)
     (λ c. search needs)
@@ -29,6 +30,6 @@ far-power-of-spec =
     (λ c. search needs)
     (λ c. search needs)
     (λ c. let at-loop = c .before .before .before .before in
-    let at-args = at-loop .before .before .before in
+    let at-args = at-loop .before .before .before .before in
     (search needs, let slot = at-loop .loop .slot in iter-next _ _ _ (at-loop .loop .inv .1) (rw (c .add-slot .ensures, part-is 257 (257 * slot) slot (at-args .args .powers .now) refl))))
     (λ c. search (needs, loops)))
