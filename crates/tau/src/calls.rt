@@ -1,10 +1,10 @@
 // The public calls. A state goes in by value and comes back; the buffers are lent. A refused call writes nothing.
-use tau_clears::weights::clear;
 use tau_frame::Framed;
 use tau_frame::flush_block;
 use tau_frame::run;
 use tau_frame::stay;
 use tau_frame::wait;
+use tau_fresh::fresh::clear_all;
 use tau_fresh::fresh::empty;
 use tau_fresh::fresh::fresh;
 use tau_fresh::refusals::create_refusal;
@@ -85,10 +85,7 @@ pub fn create(
             state: empty(),
         };
     }
-    clear(shadow);
-    clear(output);
-    clear(spectra);
-    clear(powers);
+    clear_all(shadow, output, spectra, powers);
     Started {
         refusal: 0,
         state: fresh(partitions, suppress, 0, 0),
@@ -108,10 +105,7 @@ pub fn reset(
     if refusal != 0 {
         return Started { refusal, state: s };
     }
-    clear(shadow);
-    clear(output);
-    clear(spectra);
-    clear(powers);
+    clear_all(shadow, output, spectra, powers);
     let m = s.mic;
     Started {
         refusal: 0,

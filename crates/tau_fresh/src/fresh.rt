@@ -1,4 +1,5 @@
-// The states that creation and reset give.
+// The states that creation and reset give, and what they write to the lent buffers.
+use tau_clears::weights::clear;
 use tau_state::state::Detector;
 use tau_state::state::Far;
 use tau_state::state::Guard;
@@ -9,6 +10,7 @@ use tau_state::state::Suppressor;
 use tau_state::state::TauCanceller;
 ghost use mathlib.Core.Path.{_≡_};
 ghost use Prim.Native.Nat.{_≤_};
+ghost use Rattle.tau_clears.specs.Weights.{cleared};
 ghost use Rattle.tau_fresh.specs.Fresh.{freshMic, freshStateOf, freshOf, emptyOf};
 
 fn fresh_mic(unit: f64, transfers: u64, divergence_resets: u64) -> Mic
@@ -97,4 +99,13 @@ pub fn empty() -> TauCanceller
     ensures { λ r. ⌜ r ≡ emptyOf ⌝ }
 {
     state(0, false, 0, fresh_mic(0.0, 0, 0))
+}
+
+pub fn clear_all(shadow: &mut [f64], output: &mut [f64], spectra: &mut [f64], powers: &mut [f64])
+    ensures { λ _. ⌜ (now (shadow .exit) ≡ cleared (now (shadow .entry))) × (now (output .exit) ≡ cleared (now (output .entry))) × (now (spectra .exit) ≡ cleared (now (spectra .entry))) × (now (powers .exit) ≡ cleared (now (powers .entry))) ⌝ }
+{
+    clear(shadow);
+    clear(output);
+    clear(spectra);
+    clear(powers);
 }

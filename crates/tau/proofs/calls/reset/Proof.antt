@@ -16,20 +16,15 @@ reset-spec =
     (λ c κs. search needs)
     (λ c. rw (← c .before .state-refusal .ensures) (pick-no _ _ _ (ne-eqb _ _ (c .if1 .taken)) refl))
     (λ c κs. search needs)
-    (λ c κs. search needs)
-    (λ c κs. search needs)
-    (λ c κs. search needs)
-    (λ c κs. let taken = c .before .before .before .before .before .before .before .before .before .before .before .before .before .before .before .before .before in
+    (λ c κs. let taken = c .before .before .before .before .before .before .before .before .before .before .before .before .before .before in
     accepted-state _ _ _ _ _ (sym (taken .before .state-refusal .ensures) ∙ taken .if1 .left) .ranged .some)
     (λ c. search needs)
     (λ c. search needs)
     (λ c. search needs)
     (λ c. search needs)
-    (λ c. let taken = c .before .before .before .before .before .before .before .before .before .before .before .before .before .before .before .before .before .before in
+    (λ c. let taken = c .before .before .before .before .before .before .before .before .before .before .before .before .before .before .before in
     let refusal = taken .before .state-refusal .ensures in
-    let z = accepted-state _ _ _ _ _ (sym refusal ∙ taken .if1 .left) in
-    let last = c .before .before .before .before in
-    let third = last .before .before .before .before in
-    let second = third .before .before .before .before in
+    let z = accepted-state _ _ _ _ _ (sym refusal ∙ taken .if1 .left) .sizes in
+    let all = c .before .before .before .before .before .before .before .before .before .before .clear-all .ensures in
     rw (← refusal) (pick-yes _ _ _ (eq-eqb _ _ (taken .if1 .left))
-    (rw (c .fresh .ensures, last .clear4 .ensures, third .clear3 .ensures, second .clear2 .ensures, second .before .before .before .before .clear .ensures, z .sizes .shadow, z .sizes .output, z .sizes .spectra, z .sizes .powers)))))
+    (rw (c .fresh .ensures, all .0, all .1, all .2, all .3, z .shadow, z .output, z .spectra, z .powers)))))
