@@ -80,7 +80,7 @@ abbrev pub MoveLeak : Type 0
 MoveLeak = (asked : Conditions) (paths : Paths) (leak : Float) → reasonOf asked paths ≡ Moved leak → Leak leak
 
 -- "the step factor in 6 is 0.02 to 1": of every bin k, whatever the spectra and the means hold, by the powers worked out from the spectra;
--- by kept powers it is Powers' `TrueFactor`
+-- by kept powers it is Powers' `KeptFactor`
 abbrev pub StepFactor : Type 0
 StepFactor = (spectra means : List Float) (parts k : ℕ) → Factor (factorOf (getD means k nan) (getD (farPowerTo spectra parts) k nan))
 

@@ -20,18 +20,17 @@ use Rattle.tau_streams.specs.Silence.{madeBy, callsOf}
 use Rattle.tau_streams.specs.Powers.{processBy, flushBy}
 
 -- "written when its spectrum is written": every block, a flush's too, whether it adapts or not and whatever the buffers hold, writes the
--- powers of the spectrum that it stores, to the slot of that spectrum, and no others
-abbrev pub PowersWritten : Type 0
-PowersWritten = (e : Engine) (far : List Float) (b : Block)
-    → let after = runBlock e far b .engine in
-    let slot = after .state .far .head in
-    let spectrum = spectrumOf (after .state .far .window) in
-    (after .spectra ≡ withPart 514 slot (e .spectra) spectrum) × (after .powers ≡ withPart 257 slot (e .powers) (powersOf spectrum))
+-- powers of the spectrum that it stores, to the slot of that spectrum, and no others. "The sum over partitions keeps its order": what its
+-- update takes is the sum by slot of the powers that it leaves, true or false.
+pub record Written (e : Engine) (far : List Float) (b : Block) : Type 0 where
+  pub spectra : let after = runBlock e far b .engine in
+      after .spectra ≡ withPart 514 (after .state .far .head) (e .spectra) (spectrumOf (after .state .far .window))
+  pub powers : let after = runBlock e far b .engine in
+      after .powers ≡ withPart 257 (after .state .far .head) (e .powers) (powersOf (spectrumOf (after .state .far .window)))
+  pub sum : heardIn e far .farPower ≡ keptPowerTo (runBlock e far b .engine .powers) (e .state .partitions)
 
--- "The sum over partitions keeps its order": what a block's update takes is the kept powers' sum by slot, whatever they are
-abbrev pub PowersFollowed : Type 0
-PowersFollowed = (e : Engine) (far : List Float) (b : Block)
-    → heardIn e far .farPower ≡ keptPowerTo (runBlock e far b .engine .powers) (e .state .partitions)
+abbrev pub PowersWritten : Type 0
+PowersWritten = (e : Engine) (far : List Float) (b : Block) → Written e far b
 
 -- "From creation, after every block, flush and reset, each kept number is the one worked out from its bin": a creation leaves it so, and an
 -- accepted reset, whatever the powers were; and every call, accepted or refused, and every row of calls, keeps it so
@@ -65,10 +64,8 @@ abbrev pub FalseGone : Type 0
 FalseGone = (e : Engine) (near far : List Float) → Good e → True (blocksOf (e .state .partitions) e near far .engine)
 
 -- "the step factor's bound .. for states that our calls made": of every bin k, for any engine in order with true powers, whatever the far
--- samples and the means
-abbrev pub TrueFactor : Type 0
-TrueFactor = (e : Engine) (far means : List Float) (k : ℕ) → Good e → True e → Factor (factorOf (getD means k nan) (getD (heardIn e far .farPower) k nan))
-
--- by false ones it is not held: the far power -2.0 with the mean 1.0 gives 4.0
-abbrev pub FalseFactor : Type 0
-FalseFactor = factorOf one (fin true 1 (pos 1)) ≡ fin false 1 (pos 2)
+-- samples and the means. By false ones it is not held: the far power -2.0 with the mean 1.0 gives 4.0.
+abbrev pub KeptFactor : Type 0
+KeptFactor =
+    ((e : Engine) (far means : List Float) (k : ℕ) → Good e → True e → Factor (factorOf (getD means k nan) (getD (heardIn e far .farPower) k nan)))
+    × (factorOf one (fin true 1 (pos 1)) ≡ fin false 1 (pos 2))
