@@ -67,8 +67,8 @@ served : (r : Run) (out : List Float) (bytes : List ℕ) → Ran r (writtenBy (s
 served r out bytes = record { left = served-left r out bytes; sent = served-sent r out bytes; taken = refl }
 
 module _ (e : Engine) (good : Good e) where
-  state : State (e .state) (length (e .shadow)) (length (e .output)) (length (e .spectra))
-  state = record { ranged = good .ranged; sizes = record { shadow = good .shadow; output = good .output; spectra = good .spectra } }
+  state : State (e .state) (length (e .shadow)) (length (e .output)) (length (e .spectra)) (length (e .powers))
+  state = record { ranged = good .ranged; sizes = record { shadow = good .shadow; output = good .output; spectra = good .spectra; powers = good .powers } }
 
 module _ (e : Engine) (good : Good e) (bytes : List ℕ) (b : length bytes ≡ 16384) where
   room : length (roomOf bytes) ≡ 4096
@@ -78,7 +78,7 @@ module _ (e : Engine) (good : Good e) (bytes : List ℕ) (b : length bytes ≡ 1
   pairs-ran : (near far : List Float) → length near ≡ length far → length near ≤ 4096 → processOf e near far (roomOf bytes) ≡ servedOf (pairsOf e near far) (roomOf bytes)
   pairs-ran near far level few =
       process-ran e near far (roomOf bytes)
-      (process-accepted (e .state) _ _ _ _ _ _
+      (process-accepted (e .state) _ _ _ _ _ _ _
       (record { state = state e good; pairs = record { level = level; few = few; room = rw room (fits (e .state .carried) (length near) (good .ranged .waiting) few) } }))
     where
       fits : (c n : ℕ) → c ≤ 255 → n ≤ 4096 → (c + n) / 256 * 256 ≤ 4096
@@ -107,7 +107,7 @@ module _ (e : Engine) (good : Good e) (bytes : List ℕ) (b : length bytes ≡ 1
   end-ran =
       let w = good .ranged .waiting in
       let q : flushOf e (roomOf bytes) ≡ servedOf (flushedOf e) (roomOf bytes) =
-      flush-ran e (roomOf bytes) (flush-accepted (e .state) _ _ _ _ (record { state = state e good; room = rw last-room (omega (arith, w)) })) in
+      flush-ran e (roomOf bytes) (flush-accepted (e .state) _ _ _ _ _ (record { state = state e good; room = rw last-room (omega (arith, w)) })) in
       subst (λ (c : Called). Ran (flushedOf e) (writtenBy c bytes)) (sym q) (served (flushedOf e) (roomOf bytes) bytes)
 
 -- ---- reads in a row
@@ -122,23 +122,28 @@ long-last = length-replicate {A = ℕ} 1024 0
 abbrev runOf : List ℕ → Run
 runOf s = pairsOf startOf (nearIn s) (farIn s)
 
-module _ (z : List Float) (l : length z ≡ 2056) where
-  start-accepted : createRefusal 4 (length z) (length z) (length z) ≡ 0
-  start-accepted = settings-accepted 4 (length z) (length z) (length z) (record { some = omega arith; most = omega arith; sizes = record { shadow = l; output = l; spectra = l } })
+module _ (z y : List Float) (l : length z ≡ 2056) (k : length y ≡ 1028) where
+  start-fits : createRefusal 4 (length z) (length z) (length z) (length y) ≡ 0
+  start-fits =
+      settings-accepted 4 (length z) (length z) (length z) (length y)
+      (record { some = omega arith; most = omega arith; sizes = record { shadow = l; output = l; spectra = l; powers = k } })
 
 abbrev zeros : List Float
 zeros = replicate 2056 zero64
 
-long-zeros : length zeros ≡ 2056
-long-zeros = length-replicate 2056 zero64
+abbrev powers : List Float
+powers = replicate 1028 zero64
+
+start-accepted : createRefusal 4 (length zeros) (length zeros) (length zeros) (length powers) ≡ 0
+start-accepted = start-fits zeros powers (length-replicate 2056 zero64) (length-replicate 1028 zero64)
 
 start-good : Good startOf
 unfolding startOf
-start-good = created-good 4 true zeros zeros zeros (start-accepted zeros long-zeros)
+start-good = created-good 4 true zeros zeros zeros powers start-accepted
 
 start-begins : Begins startOf
 unfolding startOf
-start-begins = created 4 true zeros zeros zeros (create-answers 4 true zeros zeros zeros ∙ start-accepted zeros long-zeros) refl
+start-begins = created 4 true zeros zeros zeros powers (create-answers 4 true zeros zeros zeros powers ∙ start-accepted) refl
 
 -- a part more: its pairs, with what was left before them, come after
 run-cut : (s r : List ℕ) → runOf (s ++ r) ≡ joined (runOf s) (pairsOf (runOf s .engine) (nearIn (restIn s ++ r)) (farIn (restIn s ++ r)))

@@ -36,14 +36,14 @@ pub process-fits : (e : Engine) (near far out : List Float) → processOf e near
 unfolding processOf
 process-fits e near far out =
     pick-if (λ (c : Called). c .answer .delivered ≤ length out) (eqb (processNumber e near far out) 0)
-    (λ t. let a = accepted-pairs (e .state) _ _ _ _ _ _ (eqb-true (processNumber e near far out) 0 t) in rw (delivers e near far (a .state .ranged) (a .pairs .level)) (a .pairs .room))
+    (λ t. let a = accepted-pairs (e .state) _ _ _ _ _ _ _ (eqb-true (processNumber e near far out) 0 t) in rw (delivers e near far (a .state .ranged) (a .pairs .level)) (a .pairs .room))
     (λ _. omega arith)
 
 pub flush-fits : (e : Engine) (out : List Float) → flushOf e out .answer .delivered ≤ length out
 unfolding flushOf
 flush-fits e out =
     pick-if (λ (c : Called). c .answer .delivered ≤ length out) (eqb (flushNumber e out) 0)
-    (λ t. let a = accepted-flush (e .state) _ _ _ _ (eqb-true (flushNumber e out) 0 t) in rw (flushed-delivers e (a .state .ranged)) (a .room))
+    (λ t. let a = accepted-flush (e .state) _ _ _ _ _ (eqb-true (flushNumber e out) 0 t) in rw (flushed-delivers e (a .state .ranged)) (a .room))
     (λ _. omega arith)
 
 front-of-zeros : (m n : ℕ) (z : Float) → m ≤ n → take m (replicate n z) ≡ replicate m z
@@ -82,7 +82,7 @@ module _ (c k : Called) (z d : List Float) (e : c ≡ k) (fit : k .answer .deliv
   -- b are the bytes after its samples were written
   written : (bytes b : List ℕ) → 4 * length z ≤ length bytes
       → b ≡ over (4 * length (take (c .answer .delivered) (c .out ++ d))) (λ i x. writtenAt (take (c .answer .delivered) (c .out ++ d)) i) bytes
-      → record { answer = c .answer; shadow = c .shadow; output = c .output; spectra = c .spectra; bytes = b } ≡ writtenBy k bytes
+      → record { answer = c .answer; shadow = c .shadow; output = c .output; spectra = c .spectra; powers = c .powers; bytes = b } ≡ writtenBy k bytes
   written bytes b room h =
       let n = c .answer .delivered in
       let f = fits in
@@ -92,7 +92,7 @@ module _ (c k : Called) (z d : List Float) (e : c ≡ k) (fit : k .answer .deliv
       h
       ∙ ap (λ (x : List Float). over (4 * length x) (λ i y. writtenAt x i) bytes) s
       ∙ written-front (deliveredBy c) bytes (omega (arith, l, f, room, long)) in
-      (λ i. record { answer = c .answer; shadow = c .shadow; output = c .output; spectra = c .spectra; bytes = w i }) ∙ ap (λ (x : Called). writtenBy x bytes) e
+      (λ i. record { answer = c .answer; shadow = c .shadow; output = c .output; spectra = c .spectra; powers = c .powers; bytes = w i }) ∙ ap (λ (x : Called). writtenBy x bytes) e
 
 -- ---- the calls
 
@@ -104,7 +104,7 @@ flush-front c e z d h l = front c (flushOf e z) z d h (flush-fits e z) l
 
 pub flush-written : (c : Called) (e : Engine) (z d : List Float) (bytes b : List ℕ) → c ≡ flushOf e z → length (c .out) ≡ length z → z ≡ roomOf bytes
     → b ≡ over (4 * length (take (c .answer .delivered) (c .out ++ d))) (λ i x. writtenAt (take (c .answer .delivered) (c .out ++ d)) i) bytes
-    → record { answer = c .answer; shadow = c .shadow; output = c .output; spectra = c .spectra; bytes = b } ≡ finishedOf e bytes
+    → record { answer = c .answer; shadow = c .shadow; output = c .output; spectra = c .spectra; powers = c .powers; bytes = b } ≡ finishedOf e bytes
 unfolding finishedOf
 flush-written c e z d bytes b h l r w =
     let m : length z ≡ min (length bytes / 4) 4096 = ap length r ∙ length-replicate (min (length bytes / 4) 4096) zero32 in
@@ -113,7 +113,7 @@ flush-written c e z d bytes b h l r w =
 pub process-written : (c : Called) (e : Engine) (near far z d : List Float) (s held bytes b : List ℕ) → c ≡ processOf e near far z → length (c .out) ≡ length z
     → near ≡ nearIn s → far ≡ farIn s → s ≡ take 32768 held → z ≡ roomOf bytes
     → b ≡ over (4 * length (take (c .answer .delivered) (c .out ++ d))) (λ i x. writtenAt (take (c .answer .delivered) (c .out ++ d)) i) bytes
-    → record { answer = c .answer; shadow = c .shadow; output = c .output; spectra = c .spectra; bytes = b } ≡ fedOf e held bytes
+    → record { answer = c .answer; shadow = c .shadow; output = c .output; spectra = c .spectra; powers = c .powers; bytes = b } ≡ fedOf e held bytes
 unfolding fedOf
 process-written c e near far z d s held bytes b h l n f t r w =
     let m : length z ≡ min (length bytes / 4) 4096 = ap length r ∙ length-replicate (min (length bytes / 4) 4096) zero32 in

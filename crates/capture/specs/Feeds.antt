@@ -1,4 +1,4 @@
--- What each call leaves: its answer, the three lent buffers and the buffer for bytes. Definitions only.
+-- What each call leaves: its answer, the four lent buffers and the buffer for bytes. Definitions only.
 use mathlib.Core.List.{List, _++_}
 use Prim.Native.Nat.{ℕ, _*_, _/_, min}
 use lib.Ieee.{Float}
@@ -15,6 +15,7 @@ pub record Fed : Type 0 where
   pub shadow : List Float
   pub output : List Float
   pub spectra : List Float
+  pub powers : List Float
   pub bytes : List ℕ
 
 -- the samples that a buffer for bytes has room for, at most 4,096
@@ -30,6 +31,7 @@ writtenBy c bytes =
       shadow = c .shadow;
       output = c .output;
       spectra = c .spectra;
+      powers = c .powers;
       bytes = bytesOf samples ++ drop (4 * length samples) bytes;
     }
 

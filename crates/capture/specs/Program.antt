@@ -19,7 +19,7 @@ use Rattle.capture.specs.Feeds.{Fed, fedOf, finishedOf}
 
 -- "Tau with P = 4, suppression on"
 unfoldable pub startOf : Engine
-startOf = begunBy (createOf 4 true (replicate 2056 zero64) (replicate 2056 zero64) (replicate 2056 zero64))
+startOf = begunBy (createOf 4 true (replicate 2056 zero64) (replicate 2056 zero64) (replicate 2056 zero64) (replicate 1028 zero64))
 
 -- ---- what the program should write
 
@@ -38,7 +38,7 @@ pub record Going : Type 0 where
 
 -- what a call leaves of the engine, and the bytes that are written then
 abbrev pub leftBy : Fed → Engine
-leftBy f = record { state = f .answer .state; shadow = f .shadow; output = f .output; spectra = f .spectra }
+leftBy f = record { state = f .answer .state; shadow = f .shadow; output = f .output; spectra = f .spectra; powers = f .powers }
 
 abbrev pub sentBy : Fed → List ℕ
 sentBy f = take (4 * f .answer .delivered) (f .bytes)
@@ -70,7 +70,7 @@ unfoldable pub readsOf : Going → List (List ℕ) → Going
 readsOf g [] = g
 readsOf g (r ∷ rs) = readsOf (readOf g r) rs
 
--- the flush at the end, and of it the three lent buffers
+-- the flush at the end, and of it the four lent buffers
 abbrev pub endedOf : Engine → Fed
 endedOf e = finishedOf e lastBuffer
 
@@ -78,9 +78,10 @@ pub record Buffers : Type 0 where
   pub shadow : List Float
   pub output : List Float
   pub spectra : List Float
+  pub powers : List Float
 
 abbrev pub buffersBy : Fed → Buffers
-buffersBy f = record { shadow = f .shadow; output = f .output; spectra = f .spectra }
+buffersBy f = record { shadow = f .shadow; output = f .output; spectra = f .spectra; powers = f .powers }
 
 -- after it an unfinished pair is dropped
 unfoldable pub endOf : Going → Going

@@ -13,10 +13,11 @@ pub fn feed(
     shadow: &mut [f64],
     output: &mut [f64],
     spectra: &mut [f64],
+    powers: &mut [f64],
     held: &[u8],
     bytes: &mut [u8],
 ) -> Answer
-    ensures { λ r. ⌜ Feed (record { state = s; shadow = now (shadow .entry); output = now (output .entry); spectra = now (spectra .entry) }) (now (held .entry)) (now (bytes .entry)) r (now (shadow .exit)) (now (output .exit)) (now (spectra .exit)) (now (bytes .exit)) ⌝ }
+    ensures { λ r. ⌜ Feed (record { state = s; shadow = now (shadow .entry); output = now (output .entry); spectra = now (spectra .entry); powers = now (powers .entry) }) (now (held .entry)) (now (bytes .entry)) r (now (shadow .exit)) (now (output .exit)) (now (spectra .exit)) (now (powers .exit)) (now (bytes .exit)) ⌝ }
 {
     let end = lesser(held.len(), 32768);
     let taken = &held[..end];
@@ -32,6 +33,7 @@ pub fn feed(
         shadow,
         output,
         spectra,
+        powers,
         &near[..pairs],
         &far[..pairs],
         &mut out[..room],
@@ -47,13 +49,14 @@ pub fn finish(
     shadow: &mut [f64],
     output: &mut [f64],
     spectra: &mut [f64],
+    powers: &mut [f64],
     bytes: &mut [u8],
 ) -> Answer
-    ensures { λ r. ⌜ Finish (record { state = s; shadow = now (shadow .entry); output = now (output .entry); spectra = now (spectra .entry) }) (now (bytes .entry)) r (now (shadow .exit)) (now (output .exit)) (now (spectra .exit)) (now (bytes .exit)) ⌝ }
+    ensures { λ r. ⌜ Finish (record { state = s; shadow = now (shadow .entry); output = now (output .entry); spectra = now (spectra .entry); powers = now (powers .entry) }) (now (bytes .entry)) r (now (shadow .exit)) (now (output .exit)) (now (spectra .exit)) (now (powers .exit)) (now (bytes .exit)) ⌝ }
 {
     let mut out = [0.0f32; 4096];
     let room = lesser(bytes.len() / 4, 4096);
-    let answer = tau::flush(s, shadow, output, spectra, &mut out[..room]);
+    let answer = tau::flush(s, shadow, output, spectra, powers, &mut out[..room]);
     let delivered = answer.delivered;
     wire::write_samples(&out[..delivered], bytes);
     answer

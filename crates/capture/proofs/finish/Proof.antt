@@ -15,14 +15,15 @@ finish-spec =
     (λ c. search needs)
     (λ c. sym (length-take-le _ _ (omega arith)))
     (λ c κs. search needs)
-    (λ c. let f = c .before .before .before .before .before .before .before .flush in flush-front _ _ _ _ (f .ensures) (f .kept .1 .1 .1 .1 .0))
-    (λ c. let f = c .before .before .before .before .before .before .before .before .flush in sym (length-take-le _ _ (flush-front _ _ _ _ (f .ensures) (f .kept .1 .1 .1 .1 .0))))
+    (λ c. let f = c .before .before .before .before .before .before .before .before .before .flush in flush-front _ _ _ _ (f .ensures) (f .kept .1 .1 .1 .1 .1 .0))
+    (λ c. let f = c .before .before .before .before .before .before .before .before .before .before .flush in sym (length-take-le _ _ (flush-front _ _ _ _ (f .ensures) (f .kept .1 .1 .1 .1 .1 .0))))
     (λ c κs. search needs)
     (λ c. search needs)
     (λ c. search needs)
     (λ c. search needs)
     (λ c. search needs)
-    (λ c. let at-flush = c .before .before .before .before .before .before .before .before .before .before .before .before in
-    let at-lesser = at-flush .before .before .before .before .before in
-    let at-args = at-lesser .before .before .before .before .before in
-    let f = at-flush .flush in flush-written _ _ _ _ _ _ (f .ensures) (f .kept .1 .1 .1 .1 .0) (roomy _ (at-args .args .bytes .now) (at-lesser .lesser .ensures)) (c .before .before .write-samples .ensures)))
+    (λ c. search needs)
+    (λ c. let at-flush = c .before .before .before .before .before .before .before .before .before .before .before .before .before .before in
+    let at-lesser = at-flush .before .before .before .before .before .before in
+    let at-args = at-lesser .before .before .before .before .before .before in
+    let f = at-flush .flush in flush-written _ _ _ _ _ _ (f .ensures) (f .kept .1 .1 .1 .1 .1 .0) (roomy _ (at-args .args .bytes .now) (at-lesser .lesser .ensures)) (c .before .before .write-samples .ensures)))
