@@ -27,13 +27,20 @@ pub fn run() {
     let mut shadow = [0.0f64; 2056];
     let mut output = [0.0f64; 2056];
     let mut spectra = [0.0f64; 2056];
-    let started = tau::create(4, true, &mut shadow, &mut output, &mut spectra);
+    let mut powers = [0.0f64; 1028];
+    let started = tau::create(4, true, &mut shadow, &mut output, &mut spectra, &mut powers);
     let state = started.state;
-    drive(state, &mut shadow, &mut output, &mut spectra);
+    drive(state, &mut shadow, &mut output, &mut spectra, &mut powers);
 }
 
 // A proved loop has to end, and nothing says that the input does. So it counts its turns down, from a number that no run uses up.
-fn drive(start: TauCanceller, shadow: &mut [f64], output: &mut [f64], spectra: &mut [f64]) {
+fn drive(
+    start: TauCanceller,
+    shadow: &mut [f64],
+    output: &mut [f64],
+    spectra: &mut [f64],
+    powers: &mut [f64],
+) {
     let mut block = [0u8; 32776];
     let mut state = start;
     let mut left = 0usize;
@@ -41,7 +48,7 @@ fn drive(start: TauCanceller, shadow: &mut [f64], output: &mut [f64], spectra: &
     let mut is_written = true;
     let mut turns = u64::MAX;
     while turns > 0 && goes_on {
-        let turn = one_turn(left, state, &mut block, shadow, output, spectra);
+        let turn = one_turn(left, state, &mut block, shadow, output, spectra, powers);
         left = turn.left;
         goes_on = turn.goes_on;
         is_written = turn.is_written;
@@ -50,7 +57,7 @@ fn drive(start: TauCanceller, shadow: &mut [f64], output: &mut [f64], spectra: &
         turns -= 1;
     }
     if is_written {
-        finish(state, shadow, output, spectra);
+        finish(state, shadow, output, spectra, powers);
     }
 }
 
@@ -62,6 +69,7 @@ fn one_turn(
     shadow: &mut [f64],
     output: &mut [f64],
     spectra: &mut [f64],
+    powers: &mut [f64],
 ) -> Turn
     requires { ⌜ left < 8 ⌝ }
     requires { ⌜ length (now block) ≡ 32776 ⌝ }
@@ -77,7 +85,7 @@ fn one_turn(
         return ended(left, state);
     }
     let held = left + io::count(got, &block[left..end]);
-    worked(held, state, block, shadow, output, spectra)
+    worked(held, state, block, shadow, output, spectra, powers)
 }
 
 // The pairs among the bytes held, and what they deliver. All but the writing is said: the engine and the bytes that then wait.
@@ -88,13 +96,22 @@ fn worked(
     shadow: &mut [f64],
     output: &mut [f64],
     spectra: &mut [f64],
+    powers: &mut [f64],
 ) -> Turn
     requires { ⌜ held ≤ length (now block) ⌝ }
     ensures { λ r. ⌜ r .left < 8 ⌝ }
-    ensures { λ r. ⌜ record { engine = record { state = r .state; shadow = now (shadow .exit); output = now (output .exit); spectra = now (spectra .exit) }; rest = take (r .left) (now (block .exit)) } ≡ turnOf (record { state = state; shadow = now (shadow .entry); output = now (output .entry); spectra = now (spectra .entry) }) (take held (now (block .entry))) ⌝ }
+    ensures { λ r. ⌜ record { engine = record { state = r .state; shadow = now (shadow .exit); output = now (output .exit); spectra = now (spectra .exit); powers = now (powers .exit) }; rest = take (r .left) (now (block .exit)) } ≡ turnOf (record { state = state; shadow = now (shadow .entry); output = now (output .entry); spectra = now (spectra .entry); powers = now (powers .entry) }) (take held (now (block .entry))) ⌝ }
 {
     let mut bytes = [0u8; 16384];
-    let answer = capture::feed(state, shadow, output, spectra, &block[..held], &mut bytes);
+    let answer = capture::feed(
+        state,
+        shadow,
+        output,
+        spectra,
+        powers,
+        &block[..held],
+        &mut bytes,
+    );
     wire::keep_rest(held, block);
     let is_written = emit(&bytes, answer.delivered);
     let after = answer.state;
@@ -119,10 +136,16 @@ fn ended(left: usize, state: TauCanceller) -> Turn
 }
 
 // The flush, into a buffer of its own: 256 samples are more than can wait.
-fn finish(state: TauCanceller, shadow: &mut [f64], output: &mut [f64], spectra: &mut [f64])
-    ensures { λ r. ⌜ record { shadow = now (shadow .exit); output = now (output .exit); spectra = now (spectra .exit) } ≡ buffersBy (endedOf (record { state = state; shadow = now (shadow .entry); output = now (output .entry); spectra = now (spectra .entry) })) ⌝ }
+fn finish(
+    state: TauCanceller,
+    shadow: &mut [f64],
+    output: &mut [f64],
+    spectra: &mut [f64],
+    powers: &mut [f64],
+)
+    ensures { λ r. ⌜ record { shadow = now (shadow .exit); output = now (output .exit); spectra = now (spectra .exit); powers = now (powers .exit) } ≡ buffersBy (endedOf (record { state = state; shadow = now (shadow .entry); output = now (output .entry); spectra = now (spectra .entry); powers = now (powers .entry) })) ⌝ }
 {
     let mut bytes = [0u8; 1024];
-    let answer = capture::finish(state, shadow, output, spectra, &mut bytes);
+    let answer = capture::finish(state, shadow, output, spectra, powers, &mut bytes);
     emit(&bytes, answer.delivered);
 }
