@@ -12,9 +12,9 @@ use Rattle.watch.specs.Watched.{Watched, toldBy}
 module _ (w : Watched) (f g : Fed) (e : f ≡ g) where
   pub told-by : {s : TauCanceller} {c : Course} {n : List ℕ} → s ≡ f .answer .state → c ≡ courseAfter (w .course) (f .answer .report .last)
       → n ≡ countsAfter (f .answer .report .last) (w .counts)
-      → record { engine = record { state = s; shadow = f .shadow; output = f .output; spectra = f .spectra }; course = c; counts = n } ≡ toldBy w g
+      → record { engine = record { state = s; shadow = f .shadow; output = f .output; spectra = f .spectra; powers = f .powers }; course = c; counts = n } ≡ toldBy w g
   told-by p q r =
-      (λ i. record { engine = record { state = p i; shadow = f .shadow; output = f .output; spectra = f .spectra }; course = q i; counts = r i })
+      (λ i. record { engine = record { state = p i; shadow = f .shadow; output = f .output; spectra = f .spectra; powers = f .powers }; course = q i; counts = r i })
       ∙ ap (toldBy w) e
 
   pub waits-by : {s : TauCanceller} → s ≡ f .answer .state → g .answer .state .carried ≤ 255 → s .carried ≤ 255

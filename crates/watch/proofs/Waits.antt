@@ -24,10 +24,10 @@ Begins b = b .answer .state .carried ≤ 255
 abbrev Waits : Called → Type 0
 Waits c = c .answer .state .carried ≤ 255
 
-pub created-waits : (parts : ℕ) (flag : Bool) (sh ou xs : List Float) → createOf parts flag sh ou xs .answer .state .carried ≤ 255
+pub created-waits : (parts : ℕ) (flag : Bool) (sh ou xs ps : List Float) → createOf parts flag sh ou xs ps .answer .state .carried ≤ 255
 unfolding createOf freshOf emptyOf
-created-waits parts flag sh ou xs =
-    pick-if Begins (eqb (createRefusal parts (length sh) (length ou) (length xs)) 0) (λ _. omega arith) (λ _. omega arith)
+created-waits parts flag sh ou xs ps =
+    pick-if Begins (eqb (createRefusal parts (length sh) (length ou) (length xs) (length ps)) 0) (λ _. omega arith) (λ _. omega arith)
 
 pub reset-waits : (e : Engine) → e .state .carried ≤ 255 → resetOf e .answer .state .carried ≤ 255
 unfolding resetOf freshOf
@@ -37,12 +37,13 @@ process-waits : (e : Engine) (near far out : List Float) → e .state .carried �
 unfolding processOf
 process-waits e near far out h =
     pick-if Waits (eqb (processNumber e near far out) 0)
-    (λ t. let a = accepted-pairs (e .state) _ _ _ _ _ _ (eqb-true (processNumber e near far out) 0 t) .state in
+    (λ t. let a = accepted-pairs (e .state) _ _ _ _ _ _ _ (eqb-true (processNumber e near far out) 0 t) .state in
     pairs-intact e near far (record {
       ranged = a .ranged;
       shadow = a .sizes .shadow;
       output = a .sizes .output;
       spectra = a .sizes .spectra;
+      powers = a .sizes .powers;
       near = refl;
       far = refl;
     }) .ranged .waiting)

@@ -31,8 +31,8 @@ pub record Watched : Type 0 where
   pub course : Course
   pub counts : List ℕ
 
-abbrev pub begunOf : List Float → List Float → List Float → Begun
-begunOf shadow output spectra = record { engine = begunBy (createOf 4 true shadow output spectra); course = startOf }
+abbrev pub begunOf : List Float → List Float → List Float → List Float → Begun
+begunOf shadow output spectra powers = record { engine = begunBy (createOf 4 true shadow output spectra powers); course = startOf }
 
 -- what a call leaves, and what the block that it reports on adds
 abbrev pub toldBy : Watched → Fed → Watched

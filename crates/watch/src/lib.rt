@@ -29,11 +29,16 @@ pub struct Watch {
     pub course: Course,
 }
 
-pub fn start(shadow: &mut [f64], output: &mut [f64], spectra: &mut [f64]) -> Watch
+pub fn start(
+    shadow: &mut [f64],
+    output: &mut [f64],
+    spectra: &mut [f64],
+    powers: &mut [f64],
+) -> Watch
     ensures { λ r. ⌜ r .state .carried ≤ 255 ⌝ }
-    ensures { λ r. ⌜ record { engine = record { state = r .state; shadow = now (shadow .exit); output = now (output .exit); spectra = now (spectra .exit) }; course = r .course } ≡ begunOf (now (shadow .entry)) (now (output .entry)) (now (spectra .entry)) ⌝ }
+    ensures { λ r. ⌜ record { engine = record { state = r .state; shadow = now (shadow .exit); output = now (output .exit); spectra = now (spectra .exit); powers = now (powers .exit) }; course = r .course } ≡ begunOf (now (shadow .entry)) (now (output .entry)) (now (spectra .entry)) (now (powers .entry)) ⌝ }
 {
-    let started = tau::create(4, true, shadow, output, spectra);
+    let started = tau::create(4, true, shadow, output, spectra, powers);
     let state = started.state;
     Watch {
         is_written: true,
@@ -49,19 +54,28 @@ pub fn pairs(
     shadow: &mut [f64],
     output: &mut [f64],
     spectra: &mut [f64],
+    powers: &mut [f64],
     counts: &mut [u64],
 ) -> Watch
     requires { ⌜ w .state .carried ≤ 255 ⌝ }
     requires { ⌜ length (now counts) ≡ 11 ⌝ }
     ensures { λ r. ⌜ r .state .carried ≤ 255 ⌝ }
-    ensures { λ r. ⌜ (r .«is_written» ≡ true → record { engine = record { state = r .state; shadow = now (shadow .exit); output = now (output .exit); spectra = now (spectra .exit) }; course = r .course; counts = now (counts .exit) } ≡ piecesOf (length (now (bytes .entry))) (record { engine = record { state = w .state; shadow = now (shadow .entry); output = now (output .entry); spectra = now (spectra .entry) }; course = w .course; counts = now (counts .entry) }) (now (bytes .entry))) ⌝ }
+    ensures { λ r. ⌜ (r .«is_written» ≡ true → record { engine = record { state = r .state; shadow = now (shadow .exit); output = now (output .exit); spectra = now (spectra .exit); powers = now (powers .exit) }; course = r .course; counts = now (counts .exit) } ≡ piecesOf (length (now (bytes .entry))) (record { engine = record { state = w .state; shadow = now (shadow .entry); output = now (output .entry); spectra = now (spectra .entry); powers = now (powers .entry) }; course = w .course; counts = now (counts .entry) }) (now (bytes .entry))) ⌝ }
 {
     let mut after = w;
     let mut at = 0usize;
     while at < bytes.len() && after.is_written {
         let state = after.state;
         let end = at + lesser(bytes.len() - at, 8 * (256 - state.carried));
-        let next = fed(after, &bytes[at..end], shadow, output, spectra, counts);
+        let next = fed(
+            after,
+            &bytes[at..end],
+            shadow,
+            output,
+            spectra,
+            powers,
+            counts,
+        );
         after = next;
         at = end;
     }
@@ -76,17 +90,18 @@ fn fed(
     shadow: &mut [f64],
     output: &mut [f64],
     spectra: &mut [f64],
+    powers: &mut [f64],
     counts: &mut [u64],
 ) -> Watch
     requires { ⌜ w .state .carried ≤ 255 ⌝ }
     requires { ⌜ length (now counts) ≡ 11 ⌝ }
     ensures { λ r. ⌜ r .state .carried ≤ 255 ⌝ }
-    ensures { λ r. ⌜ record { engine = record { state = r .state; shadow = now (shadow .exit); output = now (output .exit); spectra = now (spectra .exit) }; course = r .course; counts = now (counts .exit) } ≡ fedBy (record { engine = record { state = w .state; shadow = now (shadow .entry); output = now (output .entry); spectra = now (spectra .entry) }; course = w .course; counts = now (counts .entry) }) (now (piece .entry)) ⌝ }
+    ensures { λ r. ⌜ record { engine = record { state = r .state; shadow = now (shadow .exit); output = now (output .exit); spectra = now (spectra .exit); powers = now (powers .exit) }; course = r .course; counts = now (counts .exit) } ≡ fedBy (record { engine = record { state = w .state; shadow = now (shadow .entry); output = now (output .entry); spectra = now (spectra .entry); powers = now (powers .entry) }; course = w .course; counts = now (counts .entry) }) (now (piece .entry)) ⌝ }
 {
     let mut unused = [0u8; 16384];
     let state = w.state;
     let course = w.course;
-    let answer = capture::feed(state, shadow, output, spectra, piece, &mut unused);
+    let answer = capture::feed(state, shadow, output, spectra, powers, piece, &mut unused);
     told(answer, course, counts)
 }
 
@@ -96,17 +111,18 @@ pub fn flush(
     shadow: &mut [f64],
     output: &mut [f64],
     spectra: &mut [f64],
+    powers: &mut [f64],
     counts: &mut [u64],
 ) -> Watch
     requires { ⌜ w .state .carried ≤ 255 ⌝ }
     requires { ⌜ length (now counts) ≡ 11 ⌝ }
     ensures { λ r. ⌜ r .state .carried ≤ 255 ⌝ }
-    ensures { λ r. ⌜ record { engine = record { state = r .state; shadow = now (shadow .exit); output = now (output .exit); spectra = now (spectra .exit) }; course = r .course; counts = now (counts .exit) } ≡ flushedBy (record { engine = record { state = w .state; shadow = now (shadow .entry); output = now (output .entry); spectra = now (spectra .entry) }; course = w .course; counts = now (counts .entry) }) ⌝ }
+    ensures { λ r. ⌜ record { engine = record { state = r .state; shadow = now (shadow .exit); output = now (output .exit); spectra = now (spectra .exit); powers = now (powers .exit) }; course = r .course; counts = now (counts .exit) } ≡ flushedBy (record { engine = record { state = w .state; shadow = now (shadow .entry); output = now (output .entry); spectra = now (spectra .entry); powers = now (powers .entry) }; course = w .course; counts = now (counts .entry) }) ⌝ }
 {
     let mut unused = [0u8; 1024];
     let state = w.state;
     let course = w.course;
-    let answer = capture::finish(state, shadow, output, spectra, &mut unused);
+    let answer = capture::finish(state, shadow, output, spectra, powers, &mut unused);
     told(answer, course, counts)
 }
 
@@ -132,17 +148,23 @@ fn told(answer: Answer, course: Course, counts: &mut [u64]) -> Watch
 }
 
 // The engine is reset, which a line says.
-pub fn reset(w: Watch, shadow: &mut [f64], output: &mut [f64], spectra: &mut [f64]) -> Watch
+pub fn reset(
+    w: Watch,
+    shadow: &mut [f64],
+    output: &mut [f64],
+    spectra: &mut [f64],
+    powers: &mut [f64],
+) -> Watch
     requires { ⌜ w .state .carried ≤ 255 ⌝ }
     ensures { λ r. ⌜ r .state .carried ≤ 255 ⌝ }
-    ensures { λ r. ⌜ record { engine = record { state = r .state; shadow = now (shadow .exit); output = now (output .exit); spectra = now (spectra .exit) }; course = r .course } ≡ resetBy (record { state = w .state; shadow = now (shadow .entry); output = now (output .entry); spectra = now (spectra .entry) }) (w .course) ⌝ }
+    ensures { λ r. ⌜ record { engine = record { state = r .state; shadow = now (shadow .exit); output = now (output .exit); spectra = now (spectra .exit); powers = now (powers .exit) }; course = r .course } ≡ resetBy (record { state = w .state; shadow = now (shadow .entry); output = now (output .entry); spectra = now (spectra .entry); powers = now (powers .entry) }) (w .course) ⌝ }
 {
     let mut text = [0u8; 149];
     let state = w.state;
     let course = w.course;
     let end = put_reset(course, &mut text);
     let is_written = emit(&text, end);
-    let started = tau::reset(state, shadow, output, spectra);
+    let started = tau::reset(state, shadow, output, spectra, powers);
     let after = started.state;
     Watch {
         is_written,

@@ -19,10 +19,11 @@ flush-spec =
     (λ c. search needs)
     (λ c. search needs)
     (λ c. search needs)
-    (λ c. let s = c .before .before .before .before .before .before .before .before .before .before .before .before .before .before .before .before .before .before .before .before .before .before .args in
-    let e : Engine = record { state = s .w .state; shadow = s .shadow .now; output = s .output .now; spectra = s .spectra .now } in
+    (λ c. search needs)
+    (λ c. let s = c .before .before .before .before .before .before .before .before .before .before .before .before .before .before .before .before .before .before .before .before .before .before .before .before .before .before .args in
+    let e : Engine = record { state = s .w .state; shadow = s .shadow .now; output = s .output .now; spectra = s .spectra .now; powers = s .powers .now } in
     let w : Watched = record { engine = e; course = s .w .course; counts = s .counts .now } in
     let g = endedOf e in
     let told = c .before .before .told .ensures in
-    let is = c .before .before .before .before .before .before .before .before .before .before .before .finish .ensures in
-    (waits-by w _ g is (told .0) (ended-waits e lastBuffer (c .before .before .before .before .before .before .before .before .before .before .before .before .before .before .before .before .before .before .before .before .before .before .pre .0)), told-by w _ g is (told .0) (told .1 .0) (told .1 .1))))
+    let is = c .before .before .before .before .before .before .before .before .before .before .before .before .before .finish .ensures in
+    (waits-by w _ g is (told .0) (ended-waits e lastBuffer (c .before .before .before .before .before .before .before .before .before .before .before .before .before .before .before .before .before .before .before .before .before .before .before .before .before .before .pre .0)), told-by w _ g is (told .0) (told .1 .0) (told .1 .1))))

@@ -14,15 +14,15 @@ use borrow.Author.Needs.{needs}
 use Rattle.watch.proofs.pairs.Statement.{statement}
 use Rattle.watch.proofs.pairs.Tie as tie
 
-abbrev at-of : TauCanceller → Course → List Float → List Float → List Float → List ℕ → Watched
-at-of s c shadow output spectra counts = record { engine = record { state = s; shadow = shadow; output = output; spectra = spectra }; course = c; counts = counts }
+abbrev at-of : TauCanceller → Course → List Float → List Float → List Float → List Float → List ℕ → Watched
+at-of s c shadow output spectra powers counts = record { engine = record { state = s; shadow = shadow; output = output; spectra = spectra; powers = powers }; course = c; counts = counts }
 
 abbrev Inv-loop : tie.InvT-loop
-Inv-loop bytes shadow₀ output₀ spectra₀ counts₀ after₀ at₀ shadow output spectra counts after at =
-    (((at ≤ length bytes) × (after .state .carried ≤ 255)) × ((length shadow ≡ length shadow₀) × ((length output ≡ length output₀) × ((length spectra ≡ length spectra₀) × (length counts ≡ 11))))) × Going (at-of (after₀ .state) (after₀ .course) shadow₀ output₀ spectra₀ counts₀) bytes (at-of (after .state) (after .course) shadow output spectra counts) at
+Inv-loop bytes shadow₀ output₀ spectra₀ powers₀ counts₀ after₀ at₀ shadow output spectra powers counts after at =
+    (((at ≤ length bytes) × (after .state .carried ≤ 255)) × ((length shadow ≡ length shadow₀) × ((length output ≡ length output₀) × ((length spectra ≡ length spectra₀) × ((length powers ≡ length powers₀) × (length counts ≡ 11)))))) × Going (at-of (after₀ .state) (after₀ .course) shadow₀ output₀ spectra₀ powers₀ counts₀) bytes (at-of (after .state) (after .course) shadow output spectra powers counts) at
 
 abbrev μ-loop : tie.MeasureT-loop
-μ-loop bytes shadow₀ output₀ spectra₀ counts₀ after₀ at₀ shadow output spectra counts after at =
+μ-loop bytes shadow₀ output₀ spectra₀ powers₀ counts₀ after₀ at₀ shadow output spectra powers counts after at =
     length bytes - at
 
 pub pairs-spec : {M : Type 1} → statement M
@@ -39,20 +39,21 @@ pairs-spec =
     (λ c. search needs)
     (λ c. search needs)
     (λ c κs. search needs)
-    (λ c. let at-piece = c .before .before .before .before .before .before .before .before .before .before .before .before .before .before in
+    (λ c. let at-piece = c .before .before .before .before .before .before .before .before .before .before .before .before .before .before .before .before .before in
     omega (arith, at-piece .lesser .ensures, at-piece .before .before .before .before .before .loop .inv .0 .0 .1))
-    (λ c. let f = c .before .before .before .before .before .before .before .before .fed in
-    let at-piece = c .before .before .before .before .before .before .before .before .before .before .before .before .before .before in
+    (λ c. let f = c .before .before .before .before .before .before .before .before .before .before .fed in
+    let at-piece = c .before .before .before .before .before .before .before .before .before .before .before .before .before .before .before .before .before in
     let piece = at-piece .lesser in
     let turn = at-piece .before .before .before .before in
     let at-loop = turn .before in
     let v = at-loop .loop .inv .0 in (
       (
         (omega (arith, piece .ensures), f .ensures .0),
-        (f .kept .1 .1 .0 ∙ v .1 .0, (f .kept .1 .1 .1 .0 ∙ v .1 .1 .0, (f .kept .1 .1 .1 .1 .0 ∙ v .1 .1 .1 .0, f .kept .1 .1 .1 .1 .1 .0 ∙ v .1 .1 .1 .1))),
+        (f .kept .1 .1 .0 ∙ v .1 .0, (f .kept .1 .1 .1 .0 ∙ v .1 .1 .0, (f .kept .1 .1 .1 .1 .0 ∙ v .1 .1 .1 .0, (f .kept .1 .1 .1 .1 .1 .0 ∙ v .1 .1 .1 .1 .0, f .kept .1 .1 .1 .1 .1 .1 .0 ∙ v .1 .1 .1 .1 .1)))),
       ),
-      next _ _ _ (at-loop .before .before .before .before .before .before .args .bytes .now) (at-loop .loop .at) (piece .result) (turn .loop-test .taken) (v .0 .1) (piece .ensures) (f .ensures .1) (at-loop .loop .inv .1),
+      next _ _ _ (at-loop .before .before .before .before .before .before .before .args .bytes .now) (at-loop .loop .at) (piece .result) (turn .loop-test .taken) (v .0 .1) (piece .ensures) (f .ensures .1) (at-loop .loop .inv .1),
     ))
+    (λ c. search needs)
     (λ c. search needs)
     (λ c. search needs)
     (λ c. search needs)
@@ -62,4 +63,5 @@ pairs-spec =
     (λ c. search needs)
     (λ c. search needs)
     (λ c. search needs)
-    (λ c. (c .before .loop .inv .0 .0 .1, λ k. done _ _ (c .before .before .before .before .before .before .before .args .bytes .now) (c .before .loop .at) (c .loop-test .left) (c .before .loop .inv .1))))
+    (λ c. search needs)
+    (λ c. (c .before .loop .inv .0 .0 .1, λ k. done _ _ (c .before .before .before .before .before .before .before .before .args .bytes .now) (c .before .loop .at) (c .loop-test .left) (c .before .loop .inv .1))))

@@ -22,9 +22,10 @@ reset-spec =
     (λ c. search needs)
     (λ c. search needs)
     (λ c. search needs)
-    (λ c. let s = c .before .before .before .before .before .before .before .before .before .before .before .before .before .before .before .before .before .before .before .before .before .before .args in
-    let e : Engine = record { state = s .w .state; shadow = s .shadow .now; output = s .output .now; spectra = s .spectra .now } in
-    let is = c .before .before .before .before .before .before .before .before .reset .ensures in (
-      subst (λ (b : Begun). b .answer .state .carried ≤ 255) (sym is) (reset-waits e (c .before .before .before .before .before .before .before .before .before .before .before .before .before .before .before .before .before .before .before .before .before .before .pre)),
+    (λ c. search needs)
+    (λ c. let s = c .before .before .before .before .before .before .before .before .before .before .before .before .before .before .before .before .before .before .before .before .before .before .before .before .before .before .args in
+    let e : Engine = record { state = s .w .state; shadow = s .shadow .now; output = s .output .now; spectra = s .spectra .now; powers = s .powers .now } in
+    let is = c .before .before .before .before .before .before .before .before .before .before .reset .ensures in (
+      subst (λ (b : Begun). b .answer .state .carried ≤ 255) (sym is) (reset-waits e (c .before .before .before .before .before .before .before .before .before .before .before .before .before .before .before .before .before .before .before .before .before .before .before .before .before .before .pre)),
       λ i. record { engine = begunBy (is i); course = c .closed .ensures i },
     )))

@@ -18,8 +18,9 @@ start-spec =
     (λ c. search needs)
     (λ c. search needs)
     (λ c. search needs)
-    (λ c. let s = c .before .before .before .before .before .before .before .before .before .before .before .before .before .before .before .args in
-    let is = c .before .before .before .before .before .before .before .before .create .ensures in (
-      subst (λ (b : Begun). b .answer .state .carried ≤ 255) (sym is) (created-waits 4 true (s .shadow .now) (s .output .now) (s .spectra .now)),
+    (λ c. search needs)
+    (λ c. let s = c .before .before .before .before .before .before .before .before .before .before .before .before .before .before .before .before .before .before .before .args in
+    let is = c .before .before .before .before .before .before .before .before .before .before .create .ensures in (
+      subst (λ (b : Begun). b .answer .state .carried ≤ 255) (sym is) (created-waits 4 true (s .shadow .now) (s .output .now) (s .spectra .now) (s .powers .now)),
       λ i. record { engine = begunBy (is i); course = c .start .ensures i },
     )))
