@@ -15,9 +15,17 @@ fn main() {
     let mut shadow = [0.0f64; 2056];
     let mut output = [0.0f64; 2056];
     let mut spectra = [0.0f64; 2056];
+    let mut powers = [0.0f64; 1028];
     let mut counts = [0u64; 11];
-    let start = watch::start(&mut shadow, &mut output, &mut spectra);
-    drive(start, &mut shadow, &mut output, &mut spectra, &mut counts);
+    let start = watch::start(&mut shadow, &mut output, &mut spectra, &mut powers);
+    drive(
+        start,
+        &mut shadow,
+        &mut output,
+        &mut spectra,
+        &mut powers,
+        &mut counts,
+    );
 }
 
 // A proved loop has to end, and nothing says that the input does. So it counts its turns down, from a number that no run uses up.
@@ -26,6 +34,7 @@ fn drive(
     shadow: &mut [f64],
     output: &mut [f64],
     spectra: &mut [f64],
+    powers: &mut [f64],
     counts: &mut [u64],
 )
     requires { ⌜ start .state .carried ≤ 255 ⌝ }
@@ -37,12 +46,20 @@ fn drive(
     let mut turns = u64::MAX;
     while turns > 0 && goes_on {
         let held = fill(b"why", &mut block);
-        let next = watch::pairs(watch, &block[..held], shadow, output, spectra, counts);
+        let next = watch::pairs(
+            watch,
+            &block[..held],
+            shadow,
+            output,
+            spectra,
+            powers,
+            counts,
+        );
         watch = next;
         goes_on = next.is_written && held == 2048;
         turns -= 1;
     }
-    if !finish(watch, shadow, output, spectra, counts) {
+    if !finish(watch, shadow, output, spectra, powers, counts) {
         complain(b"why", b": a write failed\n");
     }
 }
@@ -53,6 +70,7 @@ fn finish(
     shadow: &mut [f64],
     output: &mut [f64],
     spectra: &mut [f64],
+    powers: &mut [f64],
     counts: &mut [u64],
 ) -> bool
     requires { ⌜ watch .state .carried ≤ 255 ⌝ }
@@ -61,6 +79,6 @@ fn finish(
     if !watch.is_written {
         return false;
     }
-    let flushed = watch::flush(watch, shadow, output, spectra, counts);
+    let flushed = watch::flush(watch, shadow, output, spectra, powers, counts);
     watch::finish(flushed, counts)
 }
