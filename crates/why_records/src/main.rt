@@ -14,9 +14,17 @@ fn main() {
     let mut shadow = [0.0f64; 2056];
     let mut output = [0.0f64; 2056];
     let mut spectra = [0.0f64; 2056];
+    let mut powers = [0.0f64; 1028];
     let mut counts = [0u64; 11];
-    let start = watch::start(&mut shadow, &mut output, &mut spectra);
-    drive(start, &mut shadow, &mut output, &mut spectra, &mut counts);
+    let start = watch::start(&mut shadow, &mut output, &mut spectra, &mut powers);
+    drive(
+        start,
+        &mut shadow,
+        &mut output,
+        &mut spectra,
+        &mut powers,
+        &mut counts,
+    );
 }
 
 // A proved loop has to end, and nothing says that the input does. So it counts its turns down, from a number that no run uses up.
@@ -25,6 +33,7 @@ fn drive(
     shadow: &mut [f64],
     output: &mut [f64],
     spectra: &mut [f64],
+    powers: &mut [f64],
     counts: &mut [u64],
 )
     requires { ⌜ start .state .carried ≤ 255 ⌝ }
@@ -44,7 +53,16 @@ fn drive(
         let from = record.from;
         let end = record.end;
         let payload = record::payload(&block[from..end]);
-        let after = called(watch, record.kind, payload, shadow, output, spectra, counts);
+        let after = called(
+            watch,
+            record.kind,
+            payload,
+            shadow,
+            output,
+            spectra,
+            powers,
+            counts,
+        );
         watch = after;
         let rest = record.rest;
         input = rest;
@@ -61,21 +79,22 @@ fn called(
     shadow: &mut [f64],
     output: &mut [f64],
     spectra: &mut [f64],
+    powers: &mut [f64],
     counts: &mut [u64],
 ) -> Watch
     requires { ⌜ watch .state .carried ≤ 255 ⌝ }
     requires { ⌜ length (now counts) ≡ 11 ⌝ }
     ensures { λ r. ⌜ r .state .carried ≤ 255 ⌝ }
-    ensures { λ r. ⌜ Called kind (now (payload .entry)) (record { engine = record { state = watch .state; shadow = now (shadow .entry); output = now (output .entry); spectra = now (spectra .entry) }; course = watch .course; counts = now (counts .entry) }) (r .«is_written») (record { engine = record { state = r .state; shadow = now (shadow .exit); output = now (output .exit); spectra = now (spectra .exit) }; course = r .course; counts = now (counts .exit) }) ⌝ }
+    ensures { λ r. ⌜ Called kind (now (payload .entry)) (record { engine = record { state = watch .state; shadow = now (shadow .entry); output = now (output .entry); spectra = now (spectra .entry); powers = now (powers .entry) }; course = watch .course; counts = now (counts .entry) }) (r .«is_written») (record { engine = record { state = r .state; shadow = now (shadow .exit); output = now (output .exit); spectra = now (spectra .exit); powers = now (powers .exit) }; course = r .course; counts = now (counts .exit) }) ⌝ }
 {
     if kind == 1 {
-        return watch::pairs(watch, payload, shadow, output, spectra, counts);
+        return watch::pairs(watch, payload, shadow, output, spectra, powers, counts);
     }
     if kind == 3 {
-        return watch::flush(watch, shadow, output, spectra, counts);
+        return watch::flush(watch, shadow, output, spectra, powers, counts);
     }
     if kind == 4 {
-        return watch::reset(watch, shadow, output, spectra);
+        return watch::reset(watch, shadow, output, spectra, powers);
     }
     watch
 }

@@ -16,10 +16,11 @@ called-spec =
     (λ c. search needs)
     (λ c. search needs)
     (λ c. search needs)
-    (λ c. let is = c .before .before .before .before .before .before .before .before .before .before .before .before .before .if1 .taken in (
-      c .before .before .before .before .before .before .before .before .pairs .ensures .0,
+    (λ c. search needs)
+    (λ c. let is = c .before .before .before .before .before .before .before .before .before .before .before .before .before .before .before .before .if1 .taken in (
+      c .before .before .before .before .before .before .before .before .before .before .pairs .ensures .0,
       record {
-        pairs = λ k j. c .before .before .before .before .before .before .before .before .pairs .ensures .1 j;
+        pairs = λ k j. c .before .before .before .before .before .before .before .before .before .before .pairs .ensures .1 j;
         output = λ k. absurd (omega (arith, is, k));
         flush = λ k. absurd (omega (arith, is, k));
         reset = λ k. absurd (omega (arith, is, k));
@@ -30,12 +31,13 @@ called-spec =
     (λ c. search needs)
     (λ c. search needs)
     (λ c. search needs)
-    (λ c. let is = c .before .before .before .before .before .before .before .before .before .before .before .before .before .if2 .taken in (
-      c .before .before .before .before .before .before .before .before .flush .ensures .0,
+    (λ c. search needs)
+    (λ c. let is = c .before .before .before .before .before .before .before .before .before .before .before .before .before .before .before .before .if2 .taken in (
+      c .before .before .before .before .before .before .before .before .before .before .flush .ensures .0,
       record {
         pairs = λ k j. absurd (omega (arith, is, k));
         output = λ k. absurd (omega (arith, is, k));
-        flush = λ k. c .before .before .before .before .before .before .before .before .flush .ensures .1;
+        flush = λ k. c .before .before .before .before .before .before .before .before .before .before .flush .ensures .1;
         reset = λ k. absurd (omega (arith, is, k));
       },
     ))
@@ -43,17 +45,18 @@ called-spec =
     (λ c. search needs)
     (λ c. search needs)
     (λ c. search needs)
-    (λ c. let is = c .before .before .before .before .before .before .before .before .before .before .if3 .taken in (
-      c .before .before .before .before .before .before .reset .ensures .0,
+    (λ c. search needs)
+    (λ c. let is = c .before .before .before .before .before .before .before .before .before .before .before .before .before .if3 .taken in (
+      c .before .before .before .before .before .before .before .before .reset .ensures .0,
       record {
         pairs = λ k j. absurd (omega (arith, is, k));
         output = λ k. absurd (omega (arith, is, k));
         flush = λ k. absurd (omega (arith, is, k));
-        reset = λ k. ap (λ (b : Begun). withCounts b (c .before .before .before .before .before .before .before .before .before .before .before .before .before .before .before .before .before .before .args .counts .now)) (c .before .before .before .before .before .before .reset .ensures .1);
+        reset = λ k. ap (λ (b : Begun). withCounts b (c .before .before .before .before .before .before .before .before .before .before .before .before .before .before .before .before .before .before .before .before .before .before .args .counts .now)) (c .before .before .before .before .before .before .before .before .reset .ensures .1);
       },
     ))
     (λ c. (
-      c .before .before .before .before .before .before .before .before .pre .0,
+      c .before .before .before .before .before .before .before .before .before .pre .0,
       record {
         pairs = λ k j. absurd (c .before .before .if1 .left k);
         output = λ k. refl;

@@ -11,11 +11,11 @@ use Rattle.why_records.proofs.drive.Statement.{statement}
 use Rattle.why_records.proofs.drive.Tie as tie
 
 abbrev Inv-loop : tie.InvT-loop
-Inv-loop shadow₀ output₀ spectra₀ counts₀ block₀ input₀ watch₀ turns₀ t17 shadow output spectra counts block input watch turns =
-    ((watch .state .carried ≤ 255) × ((length block ≡ 36870) × Lies input block)) × ((length shadow ≡ length shadow₀) × ((length output ≡ length output₀) × ((length spectra ≡ length spectra₀) × (length counts ≡ 11))))
+Inv-loop shadow₀ output₀ spectra₀ powers₀ counts₀ block₀ input₀ watch₀ turns₀ t17 shadow output spectra powers counts block input watch turns =
+    ((watch .state .carried ≤ 255) × ((length block ≡ 36870) × Lies input block)) × ((length shadow ≡ length shadow₀) × ((length output ≡ length output₀) × ((length spectra ≡ length spectra₀) × ((length powers ≡ length powers₀) × (length counts ≡ 11)))))
 
 abbrev μ-loop : tie.MeasureT-loop
-μ-loop shadow₀ output₀ spectra₀ counts₀ block₀ input₀ watch₀ turns₀ t17 shadow output spectra counts block input watch turns =
+μ-loop shadow₀ output₀ spectra₀ powers₀ counts₀ block₀ input₀ watch₀ turns₀ t17 shadow output spectra powers counts block input watch turns =
     turns
 
 pub drive-spec : {M : Type 1} → statement M
@@ -35,20 +35,22 @@ drive-spec =
     (λ c. search needs)
     (λ c. search needs)
     (λ c. search needs)
+    (λ c. search needs)
     (λ c. whole _ (c .before .before .before .before .next-record .ensures) (c .before .next .given .1) .0 .0)
     (λ c. whole _ (c .before .before .before .before .before .next-record .ensures) (c .before .before .next .given .1) .0 .0)
     (λ c. whole _ (c .before .before .before .before .before .next-record .ensures) (c .before .before .next .given .1) .0 .1)
     (λ c κs. search needs)
     (λ c κs. search needs)
-    (λ c. omega (arith, c .before .before .before .before .before .before .before .before .before .before .before .before .before .before .before .before .before .before .before .before .before .before .before .before .loop-test .taken))
-    (λ c. omega (arith, c .before .before .before .before .before .before .before .before .before .before .before .before .before .before .before .before .before .before .before .before .before .before .before .before .loop-test .taken))
-    (λ c. let p = c .before .before .before .before .before .before .before .before .before .called in
-    let v = c .before .before .before .before .before .before .before .before .before .before .before .before .before .before .before .before .before .before .before .before .before .before .before .before .before .loop .inv in
-    let lies = whole _ (c .before .before .before .before .before .before .before .before .before .before .before .before .before .before .before .before .before .before .before .before .before .next-record .ensures) (c .before .before .before .before .before .before .before .before .before .before .before .before .before .before .before .before .before .before .next .given .1) .1 .0 .0 in (
-      (p .ensures .0, (c .before .before .before .before .before .before .before .before .before .before .before .before .before .before .before .before .before .before .before .before .before .next-record .kept .1 .0 ∙ v .0 .1 .0, lies)),
-      (p .kept .1 .1 .1 .0 ∙ v .1 .0, (p .kept .1 .1 .1 .1 .0 ∙ v .1 .1 .0, (p .kept .1 .1 .1 .1 .1 .0 ∙ v .1 .1 .1 .0, p .kept .1 .1 .1 .1 .1 .1 .0 ∙ v .1 .1 .1 .1))),
+    (λ c. omega (arith, c .before .before .before .before .before .before .before .before .before .before .before .before .before .before .before .before .before .before .before .before .before .before .before .before .before .before .before .loop-test .taken))
+    (λ c. omega (arith, c .before .before .before .before .before .before .before .before .before .before .before .before .before .before .before .before .before .before .before .before .before .before .before .before .before .before .before .loop-test .taken))
+    (λ c. let p = c .before .before .before .before .before .before .before .before .before .before .before .called in
+    let v = c .before .before .before .before .before .before .before .before .before .before .before .before .before .before .before .before .before .before .before .before .before .before .before .before .before .before .before .before .loop .inv in
+    let lies = whole _ (c .before .before .before .before .before .before .before .before .before .before .before .before .before .before .before .before .before .before .before .before .before .before .before .before .next-record .ensures) (c .before .before .before .before .before .before .before .before .before .before .before .before .before .before .before .before .before .before .before .before .before .next .given .1) .1 .0 .0 in (
+      (p .ensures .0, (c .before .before .before .before .before .before .before .before .before .before .before .before .before .before .before .before .before .before .before .before .before .before .before .before .next-record .kept .1 .0 ∙ v .0 .1 .0, lies)),
+      (p .kept .1 .1 .1 .0 ∙ v .1 .0, (p .kept .1 .1 .1 .1 .0 ∙ v .1 .1 .0, (p .kept .1 .1 .1 .1 .1 .0 ∙ v .1 .1 .1 .0, (p .kept .1 .1 .1 .1 .1 .1 .0 ∙ v .1 .1 .1 .1 .0, p .kept .1 .1 .1 .1 .1 .1 .1 .0 ∙ v .1 .1 .1 .1 .1)))),
     ))
     (λ c κs. search needs)
+    (λ c. search needs)
     (λ c. search needs)
     (λ c. search needs)
     (λ c. search needs)
