@@ -36,7 +36,7 @@ use Rattle.recorded.specs.Recorded.{takenOf, Left, refusedOf, acceptedOf
 -- ---- what refuses
 
 abbrev firstNumber : Engine → ℕ → List ℕ → ℕ
-firstNumber e places out = firstRefusal (e .state) (length (e .shadow)) (length (e .output)) (length (e .spectra)) places (length out)
+firstNumber e places out = firstRefusal (e .state) (length (e .shadow)) (length (e .output)) (length (e .spectra)) (length (e .powers)) places (length out)
 
 module _ (e : Engine) (places : ℕ) (out : List ℕ) where
   pub first-none : firstNumber e places out ≡ 0 → (stateNumber e ≡ 0) × (places ≤ length out)
@@ -101,9 +101,9 @@ module _ (e : Engine) (t : List ℕ) (few : length t ≤ 4096) where
 
   pub fed-accepted : stateNumber e ≡ 0 → processNumber e near far (roomOf buffer) ≡ 0
   fed-accepted h =
-      let s = accepted-state (e .state) _ _ _ h in
+      let s = accepted-state (e .state) _ _ _ _ h in
       let n = near-few in
-      process-accepted (e .state) _ _ _ _ _ _
+      process-accepted (e .state) _ _ _ _ _ _ _
       (record { state = s; pairs = record { level = level; few = omega (arith, n); room = rw room (fits (e .state .carried) (length near) (s .ranged .waiting) n) } })
     where
       fits : (c n : ℕ) → c ≤ 255 → n ≤ 512 → (c + n) / 256 * 256 ≤ 4096
@@ -120,7 +120,7 @@ module _ (e : Engine) (t : List ℕ) (few : length t ≤ 4096) where
   pub fed-few : stateNumber e ≡ 0 → fedOf e t buffer .answer .delivered ≤ 512
   unfolding fedOf
   fed-few h =
-      let s = accepted-state (e .state) _ _ _ h in
+      let s = accepted-state (e .state) _ _ _ _ h in
       let n = near-few in
       let d : length (pairsOf e near far .samples) ≤ 512 =
       rw (delivers e near far (s .ranged) level) (most (e .state .carried) (length near) (s .ranged .waiting) n) in
@@ -135,9 +135,9 @@ module _ (e : Engine) where
 
   pub finished-accepted : stateNumber e ≡ 0 → flushNumber e (roomOf lastBuffer) ≡ 0
   finished-accepted h =
-      let s = accepted-state (e .state) _ _ _ h in
+      let s = accepted-state (e .state) _ _ _ _ h in
       let w = s .ranged .waiting in
-      flush-accepted (e .state) _ _ _ _ (record { state = s; room = rw last-room (omega (arith, w)) })
+      flush-accepted (e .state) _ _ _ _ _ (record { state = s; room = rw last-room (omega (arith, w)) })
 
   pub finished-number : finishedOf e lastBuffer .answer .refusal ≡ stateNumber e
   unfolding finishedOf flushRefusal
@@ -150,7 +150,7 @@ module _ (e : Engine) where
   pub finished-few : stateNumber e ≡ 0 → finishedOf e lastBuffer .answer .delivered ≤ 256
   unfolding finishedOf
   finished-few h =
-      let s = accepted-state (e .state) _ _ _ h in
+      let s = accepted-state (e .state) _ _ _ _ h in
       let w = s .ranged .waiting in
       let d : length (flushedOf e .samples) ≤ 256 = rw (flushed-delivers e (s .ranged)) (omega (arith, w)) in
       subst (λ (c : Called). c .answer .delivered ≤ 256) (sym (flush-ran e (roomOf lastBuffer) (finished-accepted h))) d
@@ -203,13 +203,14 @@ module _ (f : Fed) (e : Engine) (out : List ℕ) where
       shadow = f .shadow;
       output = f .output;
       spectra = f .spectra;
+      powers = f .powers;
       out = o;
     }
 
     left-is : (records : List ℕ) → w ≡ length records → o ≡ records ++ drop w out → left ≡ acceptedOf f records out
     left-is records l h =
         let d : o ≡ records ++ drop (length records) out = h ∙ ap (λ (n : ℕ). records ++ drop n out) l in
-        λ i. record { answer = record { refusal = 0; written = l i; state = f .answer .state }; shadow = f .shadow; output = f .output; spectra = f .spectra; out = d i }
+        λ i. record { answer = record { refusal = 0; written = l i; state = f .answer .state }; shadow = f .shadow; output = f .output; spectra = f .spectra; powers = f .powers; out = d i }
 
     pub feed-left : (pairs : List ℕ) (m n : ℕ) → n ≡ 0 → n ≡ firstNumber e 6156 out → m ≡ min (length pairs) 4096 → f ≡ fedOf e (take (m / 8 * 8) pairs) buffer
         → (w ≡ length (bothOf 1 (take (m / 8 * 8) pairs) (sentBy f))) × (o ≡ bothOf 1 (take (m / 8 * 8) pairs) (sentBy f) ++ drop w out) → left ≡ feedOf e pairs out

@@ -21,12 +21,12 @@ use Rattle.recorded.specs.Recorded.{wholeIn, Left, feedOf, finishOf}
 
 -- what a call leaves of the engine, and the bytes that are written then
 abbrev pub engineBy : Left → Engine
-engineBy l = record { state = l .answer .state; shadow = l .shadow; output = l .output; spectra = l .spectra }
+engineBy l = record { state = l .answer .state; shadow = l .shadow; output = l .output; spectra = l .spectra; powers = l .powers }
 
 abbrev pub writtenBy : Left → List ℕ
 writtenBy l = take (l .answer .written) (l .out)
 
--- a block's call and the flush, with the program's buffers; and of a flush the three lent buffers
+-- a block's call and the flush, with the program's buffers; and of a flush the four lent buffers
 abbrev pub blockOf : Engine → List ℕ → Left
 blockOf e block = feedOf e block (replicate 6156 0)
 
@@ -37,9 +37,10 @@ pub record Buffers : Type 0 where
   pub shadow : List Float
   pub output : List Float
   pub spectra : List Float
+  pub powers : List Float
 
 abbrev pub buffersBy : Left → Buffers
-buffersBy l = record { shadow = l .shadow; output = l .output; spectra = l .spectra }
+buffersBy l = record { shadow = l .shadow; output = l .output; spectra = l .spectra; powers = l .powers }
 
 -- where it is: its engine, all bytes written so far, and the refusals of its calls
 pub record Going : Type 0 where

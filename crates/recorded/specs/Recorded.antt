@@ -1,4 +1,4 @@
--- What each call leaves: its answer, the three lent buffers and the buffer for records. Definitions only.
+-- What each call leaves: its answer, the four lent buffers and the buffer for records. Definitions only.
 --     wholeIn s            the bytes of the whole pairs among s
 --     takenOf pairs        the bytes that a feed takes: of the whole pairs, at most 512 of them
 --     feedOf e pairs out   a feed: at out's front a record of kind 1 with the bytes taken, and behind it one of kind 2 with the bytes of
@@ -34,6 +34,7 @@ pub record Left : Type 0 where
   pub shadow : List Float
   pub output : List Float
   pub spectra : List Float
+  pub powers : List Float
   pub out : List ℕ
 
 -- a refusal leaves all as it was
@@ -43,6 +44,7 @@ refusedOf refusal e out = record {
   shadow = e .shadow;
   output = e .output;
   spectra = e .spectra;
+  powers = e .powers;
   out = out;
 }
 
@@ -53,6 +55,7 @@ acceptedOf f records out = record {
   shadow = f .shadow;
   output = f .output;
   spectra = f .spectra;
+  powers = f .powers;
   out = records ++ drop (length records) out;
 }
 
@@ -76,7 +79,7 @@ unfoldable pub finishOf : Engine → List ℕ → Left
 finishOf e out = let f = finishedOf e lastBuffer in recordedBy e f (bothOf 3 [] (sentBy f)) 1036 out
 
 -- the refusal by the state, the lent buffers and the places of out alone, which the code finds before it begins
-unfoldable pub firstRefusal : TauCanceller → ℕ → ℕ → ℕ → ℕ → ℕ → ℕ
-firstRefusal s shadow output spectra places room =
-    let first = stateRefusal s shadow output spectra in
+unfoldable pub firstRefusal : TauCanceller → ℕ → ℕ → ℕ → ℕ → ℕ → ℕ → ℕ
+firstRefusal s shadow output spectra powers places room =
+    let first = stateRefusal s shadow output spectra powers in
     pick (eqb first 0) (pick (leb places room) 0 5) first

@@ -30,16 +30,18 @@ pub fn feed(
     shadow: &mut [f64],
     output: &mut [f64],
     spectra: &mut [f64],
+    powers: &mut [f64],
     pairs: &[u8],
     out: &mut [u8],
 ) -> Recorded
-    ensures { λ r. ⌜ Feed (record { state = s; shadow = now (shadow .entry); output = now (output .entry); spectra = now (spectra .entry) }) (now (pairs .entry)) (now (out .entry)) r (now (shadow .exit)) (now (output .exit)) (now (spectra .exit)) (now (out .exit)) ⌝ }
+    ensures { λ r. ⌜ Feed (record { state = s; shadow = now (shadow .entry); output = now (output .entry); spectra = now (spectra .entry); powers = now (powers .entry) }) (now (pairs .entry)) (now (out .entry)) r (now (shadow .exit)) (now (output .exit)) (now (spectra .exit)) (now (powers .exit)) (now (out .exit)) ⌝ }
 {
     let refusal = first_refusal(
         s,
         shadow.len(),
         output.len(),
         spectra.len(),
+        powers.len(),
         6156,
         out.len(),
     );
@@ -53,7 +55,15 @@ pub fn feed(
     let end = lesser(pairs.len(), 4096) / 8 * 8;
     // As long as the buffer of program `aec`, so that what is proved of its calls holds of this one.
     let mut bytes = [0u8; 16384];
-    let answer = capture::feed(s, shadow, output, spectra, &pairs[..end], &mut bytes);
+    let answer = capture::feed(
+        s,
+        shadow,
+        output,
+        spectra,
+        powers,
+        &pairs[..end],
+        &mut bytes,
+    );
     let sent = 4 * answer.delivered;
     let written = put(1, &pairs[..end], &bytes[..sent], out);
     let state = answer.state;
@@ -71,15 +81,17 @@ pub fn finish(
     shadow: &mut [f64],
     output: &mut [f64],
     spectra: &mut [f64],
+    powers: &mut [f64],
     out: &mut [u8],
 ) -> Recorded
-    ensures { λ r. ⌜ Finish (record { state = s; shadow = now (shadow .entry); output = now (output .entry); spectra = now (spectra .entry) }) (now (out .entry)) r (now (shadow .exit)) (now (output .exit)) (now (spectra .exit)) (now (out .exit)) ⌝ }
+    ensures { λ r. ⌜ Finish (record { state = s; shadow = now (shadow .entry); output = now (output .entry); spectra = now (spectra .entry); powers = now (powers .entry) }) (now (out .entry)) r (now (shadow .exit)) (now (output .exit)) (now (spectra .exit)) (now (powers .exit)) (now (out .exit)) ⌝ }
 {
     let refusal = first_refusal(
         s,
         shadow.len(),
         output.len(),
         spectra.len(),
+        powers.len(),
         1036,
         out.len(),
     );
@@ -91,7 +103,7 @@ pub fn finish(
         };
     }
     let mut bytes = [0u8; 1024];
-    let answer = capture::finish(s, shadow, output, spectra, &mut bytes);
+    let answer = capture::finish(s, shadow, output, spectra, powers, &mut bytes);
     let sent = 4 * answer.delivered;
     let written = put(3, b"", &bytes[..sent], out);
     let state = answer.state;
@@ -108,12 +120,13 @@ fn first_refusal(
     shadow: usize,
     output: usize,
     spectra: usize,
+    powers: usize,
     places: usize,
     room: usize,
 ) -> u32
-    ensures { λ r. ⌜ r ≡ firstRefusal s shadow output spectra places room ⌝ }
+    ensures { λ r. ⌜ r ≡ firstRefusal s shadow output spectra powers places room ⌝ }
 {
-    let first = state_refusal(s, shadow, output, spectra);
+    let first = state_refusal(s, shadow, output, spectra, powers);
     if first != 0 {
         return first;
     }
