@@ -23,20 +23,27 @@ fn main() {
     let mut shadow = [0.0f64; 2056];
     let mut output = [0.0f64; 2056];
     let mut spectra = [0.0f64; 2056];
-    let started = tau::create(4, true, &mut shadow, &mut output, &mut spectra);
+    let mut powers = [0.0f64; 1028];
+    let started = tau::create(4, true, &mut shadow, &mut output, &mut spectra, &mut powers);
     let state = started.state;
-    drive(state, &mut shadow, &mut output, &mut spectra);
+    drive(state, &mut shadow, &mut output, &mut spectra, &mut powers);
 }
 
 // A proved loop has to end, and nothing says that the input does. So it counts its turns down, from a number that no run uses up.
-fn drive(start: TauCanceller, shadow: &mut [f64], output: &mut [f64], spectra: &mut [f64]) {
+fn drive(
+    start: TauCanceller,
+    shadow: &mut [f64],
+    output: &mut [f64],
+    spectra: &mut [f64],
+    powers: &mut [f64],
+) {
     let mut block = [0u8; 4096];
     let mut state = start;
     let mut goes_on = true;
     let mut is_written = true;
     let mut turns = u64::MAX;
     while turns > 0 && goes_on {
-        let turn = one_turn(state, &mut block, shadow, output, spectra);
+        let turn = one_turn(state, &mut block, shadow, output, spectra, powers);
         goes_on = turn.goes_on;
         is_written = turn.is_written;
         let after = turn.state;
@@ -44,7 +51,7 @@ fn drive(start: TauCanceller, shadow: &mut [f64], output: &mut [f64], spectra: &
         turns -= 1;
     }
     if is_written {
-        finish(state, shadow, output, spectra);
+        finish(state, shadow, output, spectra, powers);
     }
 }
 
@@ -55,6 +62,7 @@ fn one_turn(
     shadow: &mut [f64],
     output: &mut [f64],
     spectra: &mut [f64],
+    powers: &mut [f64],
 ) -> Turn {
     let held = fill(b"pack", block);
     if held < 8 {
@@ -64,7 +72,7 @@ fn one_turn(
             state,
         };
     }
-    worked(&block[..held], state, shadow, output, spectra)
+    worked(&block[..held], state, shadow, output, spectra, powers)
 }
 
 // The pairs of a block, and what they deliver. All but the writing is said: the engine after it. A block that is not full is the last.
@@ -74,11 +82,12 @@ fn worked(
     shadow: &mut [f64],
     output: &mut [f64],
     spectra: &mut [f64],
+    powers: &mut [f64],
 ) -> Turn
-    ensures { λ r. ⌜ record { state = r .state; shadow = now (shadow .exit); output = now (output .exit); spectra = now (spectra .exit) } ≡ engineBy (blockOf (record { state = state; shadow = now (shadow .entry); output = now (output .entry); spectra = now (spectra .entry) }) (now (held .entry))) ⌝ }
+    ensures { λ r. ⌜ record { state = r .state; shadow = now (shadow .exit); output = now (output .exit); spectra = now (spectra .exit); powers = now (powers .exit) } ≡ engineBy (blockOf (record { state = state; shadow = now (shadow .entry); output = now (output .entry); spectra = now (spectra .entry); powers = now (powers .entry) }) (now (held .entry))) ⌝ }
 {
     let mut out = [0u8; 6156];
-    let recorded = recorded::feed(state, shadow, output, spectra, held, &mut out);
+    let recorded = recorded::feed(state, shadow, output, spectra, powers, held, &mut out);
     let is_written = emit(&out, recorded.written);
     let after = recorded.state;
     Turn {
@@ -88,10 +97,16 @@ fn worked(
     }
 }
 
-fn finish(state: TauCanceller, shadow: &mut [f64], output: &mut [f64], spectra: &mut [f64])
-    ensures { λ r. ⌜ record { shadow = now (shadow .exit); output = now (output .exit); spectra = now (spectra .exit) } ≡ buffersBy (flushOf (record { state = state; shadow = now (shadow .entry); output = now (output .entry); spectra = now (spectra .entry) })) ⌝ }
+fn finish(
+    state: TauCanceller,
+    shadow: &mut [f64],
+    output: &mut [f64],
+    spectra: &mut [f64],
+    powers: &mut [f64],
+)
+    ensures { λ r. ⌜ record { shadow = now (shadow .exit); output = now (output .exit); spectra = now (spectra .exit); powers = now (powers .exit) } ≡ buffersBy (flushOf (record { state = state; shadow = now (shadow .entry); output = now (output .entry); spectra = now (spectra .entry); powers = now (powers .entry) })) ⌝ }
 {
     let mut out = [0u8; 1036];
-    let recorded = recorded::finish(state, shadow, output, spectra, &mut out);
+    let recorded = recorded::finish(state, shadow, output, spectra, powers, &mut out);
     emit(&out, recorded.written);
 }
