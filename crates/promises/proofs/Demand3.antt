@@ -48,10 +48,10 @@ tau-ready e g =
       ranged = t .0;
       sized = t .1;
       resets = accepted.reset-answers e ∙ z;
-      flushes = λ out k. accepted.flush-answers e out ∙ fresh.flush-accepted (e .state) _ _ _ _ (record { state = s; room = k });
+      flushes = λ out k. accepted.flush-answers e out ∙ fresh.flush-accepted (e .state) _ _ _ _ _ (record { state = s; room = k });
       feeds = λ near far out l m k.
           accepted.process-answers e near far out
-          ∙ fresh.process-accepted (e .state) _ _ _ _ _ _ (record { state = s; pairs = record { level = l; few = m; room = k } });
+          ∙ fresh.process-accepted (e .state) _ _ _ _ _ _ _ (record { state = s; pairs = record { level = l; few = m; room = k } });
     }
 
 holds : (t : Since) → Uncut t → TauHolds t

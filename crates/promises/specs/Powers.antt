@@ -1,6 +1,6 @@
 -- What is promised of the kept powers, request K10. Statements; proved in proofs/Powers.antt.
 use mathlib.Core.Path.{_≡_}
-use mathlib.Core.Bool.{Bool}
+use mathlib.Core.Bool.{Bool, true, false}
 use mathlib.Core.List.{List}
 use Prim.Native.Nat.{ℕ}
 use lib.IntN.{pos}

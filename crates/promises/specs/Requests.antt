@@ -120,7 +120,7 @@ actedIn e far b =
       detector = d;
       comparison = acted why (pathsIn e far b) (s .mic .transfers) (f .output .shadow) (f .output .output);
     } in
-    let u = updated (updates (b .adapt) f j) (ringIn e far) (f .shadowError) (d .«step_scale») (s .mic .«far_power_mean») (j .comparison .paths) (f .output .resets) (j .comparison .shadow) in
+    let u = updated (updates (b .adapt) f j) (ringIn e far) (heard .farPower) (f .shadowError) (d .«step_scale») (s .mic .«far_power_mean») (j .comparison .paths) (f .output .resets) (j .comparison .shadow) in
     gathered f j u
     (delivered (suppresses (s .suppress) (heard .far .«far_active») f) (d .«protect_output») (b .near) (energyOf (b .near) (b .valid)) (b .valid)
     (f .output) (s .mic) (u .paths) (u .resets) (j .comparison .output))
