@@ -39,10 +39,10 @@ fn every_line_comes_to_its_answer() {
     for line in &lines {
         replay.take(line);
     }
-    assert_eq!(lines.len(), 737);
+    assert_eq!(lines.len(), 1027);
     let owned = Owned {
-        taken: 685,
-        refused: 52,
+        taken: 911,
+        refused: 116,
     };
     assert_eq!(replay.owned, owned);
 }
