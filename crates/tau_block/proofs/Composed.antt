@@ -7,7 +7,6 @@ use Prim.Native.Nat.{ℕ}
 use lib.Ieee.{Float}
 use Rattle.tau_state.specs.Sums.{energyOf}
 use Rattle.tau_state.specs.Lent.{micOf}
-use Rattle.tau_state.specs.declared.state.Mic.{Mic}
 use Rattle.tau_state.specs.declared.state.MicRest.{MicRest}
 use Rattle.tau_state.specs.declared.state.Suppressor.{Suppressor}
 use Rattle.tau_spectra.specs.Ring.{ringOf}
@@ -16,7 +15,7 @@ use Rattle.tau_update.specs.Update.{Updated, updated}
 use Rattle.tau_update.specs.declared.update.UpdatedRest.{UpdatedRest}
 use Rattle.tau_filter.specs.Lent.{estimatedOf}
 use Rattle.tau_filter.specs.declared.filter.Checked.{Checked}
-use Rattle.tau_block.specs.Block.{Block, Playing, Microphone, Listened, listen}
+use Rattle.tau_block.specs.Block.{Block, Playing, Microphone, listen}
 use Rattle.tau_block.specs.Groups.{Filtered, Judgement, Delivered, filtered, compares, delivered, gathered, updates, suppresses, grouped}
 use Rattle.tau_block.specs.Lent.{filteredOf, judgementOf, deliveredOf, playingOf, noSuppressor, bare}
 use Rattle.tau_block.specs.declared.block.Judged.{Judged}

@@ -17,7 +17,7 @@ use Rattle.laws.specs.Choice.{lt-or-ge, pick-if}
 use Rattle.fft.specs.Calls.{spectrumOf}
 use Rattle.fft.proofs.Sizes.{spectrum-514}
 use Rattle.tau_state.specs.declared.state.Far.{Far}
-use Rattle.tau_spectra.specs.Far.{Heard, hearFar}
+use Rattle.tau_spectra.specs.Far.{hearFar}
 use Rattle.tau_spectra.specs.Powers.{farPowerTo, TrueSlot, TruePowers}
 use Rattle.tau_spectra.specs.Ring.{nextSlot}
 use Rattle.tau_spectra.specs.Windows.{slid}

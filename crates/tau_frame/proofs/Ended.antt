@@ -13,7 +13,7 @@ use Rattle.laws.specs.Choice.{pick-no}
 use Rattle.tau_state.specs.declared.state.TauCanceller.{TauCanceller}
 use Rattle.tau_state.specs.declared.report.Last.the-variants.{Did}
 use Rattle.tau_block.specs.Block.{Ran, runBlock}
-use Rattle.tau_frame.specs.Pairs.{Engine, Run, emptied, blockOf, padded, flushedOf}
+use Rattle.tau_frame.specs.Pairs.{Run, emptied, blockOf, padded, flushedOf}
 use Rattle.tau_frame.proofs.Going.{block-long}
 
 pub record Flushed (s : TauCanceller) (sh ou xs ps out : List Float) (r : Ran) (out' : List Float) : Type 0 where

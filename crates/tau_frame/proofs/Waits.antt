@@ -12,7 +12,7 @@ use lib.ListN.{length, getD, set, drop, drop-of-length-le}
 use lib.Seq.{drop-cons}
 use Rattle.laws.specs.Choice.{pick-no}
 use Rattle.numbers.specs.Finite.{finiteOrZero}
-use Rattle.tau_frame.specs.Pairs.{Engine, Run, waitsOf, carrying, fillOf, pairOf, pairsOf, lastOf}
+use Rattle.tau_frame.specs.Pairs.{Engine, waitsOf, carrying, fillOf, pairOf, pairsOf, lastOf}
 use Rattle.tau_frame.specs.Lent.{filledOf}
 
 -- ---- a carry

@@ -4,13 +4,13 @@
 --     blocks-true                  as many blocks as there are partitions leave them true, whatever they were
 --     process-own, flush-own       the calls by a rule are, by `runBlock`, the calls
 --     process-squared, flush-squared     and by the rule that squares the spectra they are the same for an engine with true powers
-use mathlib.Core.Path.{_≡_, refl, sym, ap, subst, _∙_}
+use mathlib.Core.Path.{_≡_, refl, sym, subst, _∙_}
 use mathlib.Core.Bool.{Bool, true, false}
 use mathlib.Core.List.{List, [], _∷_}
 use Prim.Native.Nat.{ℕ, zero, suc, _+_}
 use native.Mathlib.Nat.{not-suc-le-zero, zero-add, add-suc, suc-add}
 use native.Mathlib.Omega.{arith}
-use borrow.Author.Tests.{eqb-true, eqb-false}
+use borrow.Author.Tests.{eqb-true}
 use lib.Dec.{eqb}
 use lib.Ieee.{Float}
 use lib.ListN.{length, take, drop}
@@ -18,7 +18,7 @@ use Rattle.laws.specs.Choice.{pick, pick-if}
 use Rattle.tau_fresh.specs.Fresh.{freshOf, emptyOf}
 use Rattle.tau_fresh.proofs.Accepted.{accepted-pairs, accepted-flush, state-accepted}
 use Rattle.tau_spectra.proofs.True.{fresh-true}
-use Rattle.tau_block.specs.Block.{Block, Engine, runBlock}
+use Rattle.tau_block.specs.Block.{Engine, runBlock}
 use Rattle.tau_block_laws.specs.Powers.{True, squaredBlock}
 use Rattle.tau_block_laws.proofs.Kept.{Sized}
 use Rattle.tau_block_laws.proofs.Powers as block

@@ -1,6 +1,6 @@
 use Rattle.tau_fresh.specs.Refusals.{processRefusal}
 use borrow.Author.Tests.{eq-eqb, ne-eqb}
-use Rattle.laws.specs.Choice.{pick-yes, pick-no, choices}
+use Rattle.laws.specs.Choice.{pick-yes, pick-no}
 use mathlib.Core.Path.{refl, sym, _∙_}
 use Rattle.tau_fresh.proofs.Accepted.{accepted-state}
 use borrow.Author.Needs.{needs}

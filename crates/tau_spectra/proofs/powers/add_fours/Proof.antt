@@ -1,6 +1,6 @@
 use Rattle.tau_spectra.specs.Powers.{keptPowerTo}
 use Rattle.tau_spectra.proofs.Fours.{four-turn}
-use mathlib.Core.Path.{_≡_, refl}
+use mathlib.Core.Path.{_≡_}
 use Prim.Native.Nat.{_-_, _+_, _*_, _≤_}
 use native.Mathlib.Nat.{add-sub-cancel-left}
 use Rattle.laws.specs.Loops.{loops}
