@@ -19,7 +19,10 @@ at-of s c shadow output spectra powers counts = record { engine = record { state
 
 abbrev Inv-loop : tie.InvT-loop
 Inv-loop bytes shadow₀ output₀ spectra₀ powers₀ counts₀ after₀ at₀ shadow output spectra powers counts after at =
-    (((at ≤ length bytes) × (after .state .carried ≤ 255)) × ((length shadow ≡ length shadow₀) × ((length output ≡ length output₀) × ((length spectra ≡ length spectra₀) × ((length powers ≡ length powers₀) × (length counts ≡ 11)))))) × Going (at-of (after₀ .state) (after₀ .course) shadow₀ output₀ spectra₀ powers₀ counts₀) bytes (at-of (after .state) (after .course) shadow output spectra powers counts) at
+    (((at ≤ length bytes) × (after .state .carried ≤ 255))
+    × ((length shadow ≡ length shadow₀) × ((length output ≡ length output₀) × ((length spectra ≡ length spectra₀) × ((length powers ≡ length powers₀) × (length counts ≡ 11))))))
+    × Going (at-of (after₀ .state) (after₀ .course) shadow₀ output₀ spectra₀ powers₀ counts₀) bytes
+    (at-of (after .state) (after .course) shadow output spectra powers counts) at
 
 abbrev μ-loop : tie.MeasureT-loop
 μ-loop bytes shadow₀ output₀ spectra₀ powers₀ counts₀ after₀ at₀ shadow output spectra powers counts after at =

@@ -44,10 +44,15 @@ drive-spec =
     (λ c. omega (arith, c .before .before .before .before .before .before .before .before .before .before .before .before .before .before .before .before .before .before .before .before .before .before .before .before .before .before .before .loop-test .taken))
     (λ c. omega (arith, c .before .before .before .before .before .before .before .before .before .before .before .before .before .before .before .before .before .before .before .before .before .before .before .before .before .before .before .loop-test .taken))
     (λ c. let p = c .before .before .before .before .before .before .before .before .before .before .before .called in
-    let v = c .before .before .before .before .before .before .before .before .before .before .before .before .before .before .before .before .before .before .before .before .before .before .before .before .before .before .before .before .loop .inv in
-    let lies = whole _ (c .before .before .before .before .before .before .before .before .before .before .before .before .before .before .before .before .before .before .before .before .before .before .before .before .next-record .ensures) (c .before .before .before .before .before .before .before .before .before .before .before .before .before .before .before .before .before .before .before .before .before .next .given .1) .1 .0 .0 in (
-      (p .ensures .0, (c .before .before .before .before .before .before .before .before .before .before .before .before .before .before .before .before .before .before .before .before .before .before .before .before .next-record .kept .1 .0 ∙ v .0 .1 .0, lies)),
-      (p .kept .1 .1 .1 .0 ∙ v .1 .0, (p .kept .1 .1 .1 .1 .0 ∙ v .1 .1 .0, (p .kept .1 .1 .1 .1 .1 .0 ∙ v .1 .1 .1 .0, (p .kept .1 .1 .1 .1 .1 .1 .0 ∙ v .1 .1 .1 .1 .0, p .kept .1 .1 .1 .1 .1 .1 .1 .0 ∙ v .1 .1 .1 .1 .1)))),
+    let at-next = c .before .before .before .before .before .before .before .before .before .before .before .before .before .before .before .before .before .before .before .before .before in
+    let at-next-record = at-next .before .before .before in
+    let v = at-next-record .before .before .before .before .loop .inv in
+    let lies = whole _ (at-next-record .next-record .ensures) (at-next .next .given .1) .1 .0 .0 in (
+      (p .ensures .0, (at-next-record .next-record .kept .1 .0 ∙ v .0 .1 .0, lies)),
+      (
+        p .kept .1 .1 .1 .0 ∙ v .1 .0,
+        (p .kept .1 .1 .1 .1 .0 ∙ v .1 .1 .0, (p .kept .1 .1 .1 .1 .1 .0 ∙ v .1 .1 .1 .0, (p .kept .1 .1 .1 .1 .1 .1 .0 ∙ v .1 .1 .1 .1 .0, p .kept .1 .1 .1 .1 .1 .1 .1 .0 ∙ v .1 .1 .1 .1 .1))),
+      ),
     ))
     (λ c κs. search needs)
     (λ c. search needs)
