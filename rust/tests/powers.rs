@@ -1,21 +1,14 @@
 //! The powers that Tau keeps of its far spectra: from creation on they are those of the spectra, another length of them is refused, and
 //! false ones are followed until they are written over.
 
+mod common;
+
 use aspeyruni::raw::refusal;
 use aspeyruni::raw::tau::{self, TauCanceller, BINS, BLOCK, LENT};
 use aspeyruni::{Refusal, Tau};
+use common::sound;
 
 const NOISE: f64 = 0.625;
-
-/// Sound of either sign, below 1 in size, and another for each seed.
-fn sound(seed: u32, count: usize) -> Vec<f32> {
-    let mut word = seed;
-    let mut next = || {
-        word = word.wrapping_mul(1_664_525).wrapping_add(1_013_904_223);
-        (word >> 8) as f32 / (1 << 23) as f32 - 1.0
-    };
-    (0..count).map(|_| next()).collect()
-}
 
 fn bits(numbers: &[f64]) -> Vec<u64> {
     numbers.iter().map(|x| x.to_bits()).collect()

@@ -1,20 +1,13 @@
 //! The engines' six refusals through the owners: each where it can occur, and a call that is refused changes nothing, neither the engine
 //! nor the output buffer. Those of records are in records.rs.
 
+mod common;
+
 use aspeyruni::raw::tau::{LENT, NUMBERS};
 use aspeyruni::{Refusal, Rho, RhoReport, Tau, MAX_PAIRS};
+use common::sound;
 
 const NOISE: f32 = 0.625;
-
-/// Sound of either sign, below 1 in size, and another for each seed.
-fn sound(seed: u32, count: usize) -> Vec<f32> {
-    let mut word = seed;
-    let mut next = || {
-        word = word.wrapping_mul(1_664_525).wrapping_add(1_013_904_223);
-        (word >> 8) as f32 / (1 << 23) as f32 - 1.0
-    };
-    (0..count).map(|_| next()).collect()
-}
 
 /// One that has run some blocks, and has 200 pairs waiting.
 fn tau() -> Tau {
