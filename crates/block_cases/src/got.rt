@@ -6,7 +6,7 @@ use tau_state::state::TauCanceller;
 
 // What a line comes to, but for the lent buffers: where there is a step as it says, the state, and the last block's outcome and reason by
 // their numbers, its leak's bits, its samples' hash and how many of its inverses' samples went over.
-#[derive(Drop)]
+#[derive(Clone, Copy)]
 pub struct Got {
     pub is_known: bool,
     pub state: TauCanceller,

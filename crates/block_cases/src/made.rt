@@ -2,7 +2,7 @@
 ghost use Rattle.std.specs.Prelude.{◌≡◌, length};
 
 // What a block is given, and the seeds of the block after it.
-#[derive(Drop)]
+#[derive(Clone, Copy)]
 pub struct Sounds {
     pub near: [f32; 256],
     pub far: [f32; 256],

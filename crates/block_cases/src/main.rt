@@ -11,6 +11,8 @@
 //     40        the hash of the powers, as many as the partitions have
 //
 // A field without a use is 0.
+#![tactic(auto)]
+
 mod got;
 mod made;
 mod steps;
@@ -27,7 +29,7 @@ use tau_state::state::TauCanceller;
 const SIZE: usize = 699;
 
 // What a line leaves to the next one, besides the buffers.
-#[derive(Drop)]
+#[derive(Clone, Copy)]
 pub struct Turn {
     pub tally: Tally,
     pub state: TauCanceller,

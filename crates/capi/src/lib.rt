@@ -1,5 +1,7 @@
 // The host library: what C and Rust programs call. Each function hands its arguments to the proved one below it, and its promise is
 // that function's own, so there is nothing to believe here but the names.
+#![tactic(auto)]
+
 mod record_calls;
 mod tau_calls;
 

@@ -6,7 +6,7 @@ use record::Written;
 
 // What `record::read` answers, and then where the payload stands in the bytes that were given. On a refusal place and length are 0.
 #[repr(C)]
-#[derive(Drop)]
+#[derive(Clone, Copy)]
 pub struct RecordRead {
     pub refusal: u32,
     pub kind: u32,

@@ -13,7 +13,7 @@ use tau_state::state::TauCanceller;
 // as `reason_number` has them. The overs: how many samples of the last block's inverse transforms went over. The leak is that of a move, and
 // 0.0 where there is none.
 #[repr(C)]
-#[derive(Drop)]
+#[derive(Clone, Copy)]
 pub struct TauAnswer {
     pub refusal: u32,
     pub delivered: usize,

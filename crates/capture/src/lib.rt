@@ -2,6 +2,8 @@
 //
 // A capture's bytes go in and the delivered samples' bytes come out. The calls refuse as TauCanceller's own do, and a refused one writes
 // nothing.
+#![tactic(auto)]
+
 ghost use Rattle.capture.specs.Promises.{Feed, Finish};
 
 use numbers::lesser;

@@ -7,6 +7,8 @@
 // compared (`judge`) or as none (`refuse`), and it closes with its `verdict`.
 //
 // Where a case is about whole buffers, its fields have the recipe of what goes in (`noise`) and one number for what comes out (`hash_of`).
+#![tactic(auto)]
+
 mod hash;
 mod line;
 mod made;

@@ -6,7 +6,7 @@ use libc::STDIN_FILENO;
 
 // The line that a program is at starts at `at` in its block, of which `left` bytes from there on have been read.
 // Less than a line is left at the list's end: nothing, or what was cut short.
-#[derive(Drop)]
+#[derive(Clone, Copy)]
 pub struct Source {
     pub at: usize,
     pub left: usize,

@@ -8,7 +8,7 @@ use libc::STDOUT_FILENO;
 const TOLD: u64 = 10;
 
 // Of the lines so far, `cases` were compared, `differ` of them differ, and `refused` are no cases.
-#[derive(Drop)]
+#[derive(Clone, Copy)]
 pub struct Tally {
     pub lines: u64,
     pub cases: u64,

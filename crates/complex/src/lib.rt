@@ -1,7 +1,9 @@
 // A complex number by value. Number i of a buffer that holds complex numbers part by part is `get_c`, `put_c` in specs/Complexes.
+#![tactic(auto)]
+
 ghost use Rattle.complex.specs.Promises.{New, Conj, Add, Sub, Mul, Scale};
 
-#[derive(Drop)]
+#[derive(Clone, Copy)]
 pub struct Complex {
     pub re: f64,
     pub im: f64,

@@ -10,7 +10,7 @@ use crate::{DONE, WRONG_LENGTH};
 use complex::Complex;
 
 // What a butterfly gives.
-#[derive(Drop)]
+#[derive(Clone, Copy)]
 pub struct Wings {
     pub upper: Complex,
     pub lower: Complex,

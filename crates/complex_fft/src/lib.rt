@@ -1,5 +1,7 @@
 // The transform of 256 complex points in place, as `ComplexFft` in fft.rs has it. `points` and the butterfly with its twiddle are for
 // the crates of the real transform; a host calls `complex_forward` and `complex_inverse`.
+#![tactic(auto)]
+
 mod complex_fft;
 pub mod points;
 mod reversal;

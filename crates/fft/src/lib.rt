@@ -1,4 +1,6 @@
 // The real transform of 512 samples, both ways, as `RealFft` in fft.rs has it.
+#![tactic(auto)]
+
 mod parts;
 mod real_fft;
 

@@ -203,7 +203,7 @@ pub fn forward(input: &[f32], out: &mut [f64]) -> u32
 
 // What an inverse answers: 0, or 2 with nothing written where a length is wrong; and how many of its 512 samples went over.
 #[repr(C)]
-#[derive(Drop)]
+#[derive(Clone, Copy)]
 pub struct Inverted {
     pub refusal: u32,
     pub overs: usize,

@@ -11,6 +11,8 @@
 //
 // For `a` the last two are det_cos and det_sin of the angle in field 0, and for `t` the table's numbers at the place in field 7
 // and the next. A field without a use is 0. Every number is written as the bits of an f64, samples too.
+#![tactic(auto)]
+
 mod made;
 mod transforms;
 
@@ -24,7 +26,7 @@ use transforms::{Ran, run};
 const SIZE: usize = 206;
 
 // The last four fields.
-#[derive(Drop)]
+#[derive(Clone, Copy)]
 pub struct Answer {
     pub number: u64,
     pub hash: u64,
@@ -33,7 +35,7 @@ pub struct Answer {
 }
 
 // Nothing where no function has the letter, or a length or a place is too large.
-#[derive(Drop)]
+#[derive(Clone, Copy)]
 pub enum Found {
     All(Answer),
     Nothing,

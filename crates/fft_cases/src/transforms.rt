@@ -6,7 +6,7 @@ ghost use Rattle.std.specs.Prelude.{◌≡◌, ◌≤◌, length};
 use fft::Inverted;
 
 // What a function answers, or nothing where none has the letter.
-#[derive(Drop)]
+#[derive(Clone, Copy)]
 pub enum Ran {
     Answer(u64),
     Nothing,

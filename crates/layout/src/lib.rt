@@ -1,5 +1,7 @@
 // Weights and far spectra as they are stored: of each partition all 257 real parts and then its 257 imaginary parts, so that a loop over the
 // bins reads runs of one kind. The definitions read them in pairs, through the map of specs/Layout.
+#![tactic(auto)]
+
 ghost use Rattle.std.specs.Prelude.{◌≡◌, ◌<◌, length};
 ghost use Rattle.complex.specs.Complexes.{get_c, put_c, mul_c};
 ghost use Rattle.layout.specs.Layout.{paired};

@@ -2,6 +2,8 @@
 //
 // A line is read from left to right. A run of digits counts as the number that it spells, however long, and any other byte as itself.
 // Lines that are the same so are told apart by their bytes.
+#![tactic(auto)]
+
 ghost use Rattle.std.specs.Prelude.{◌≡◌, true, ◌&&◌, ◌+◌, ◌≤◌, length, drop};
 ghost use Rattle.line_order.specs.Order.{is_digit, run, spelled, earlier};
 ghost use Rattle.line_order.specs.Steps.{comparison, Leading, Agreed};

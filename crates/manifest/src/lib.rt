@@ -2,6 +2,8 @@
 //
 // A line ends at a newline, and the last may have none. Every byte of every line is kept, a carriage return too. The answer is as long
 // as the manifest: its lines in the order of `line_order`, and a newline at its end where the manifest has one.
+#![tactic(auto)]
+
 mod output;
 mod place;
 mod split;
@@ -10,7 +12,7 @@ ghost use Rattle.std.specs.Prelude.{◌≡◌};
 ghost use Rattle.manifest.specs.Promises.{Sort};
 
 // `refusal` is 0 where the manifest was sorted, and `written` then counts its bytes.
-#[derive(Drop)]
+#[derive(Clone, Copy)]
 pub struct Sorted {
     pub refusal: u32,
     pub written: usize,

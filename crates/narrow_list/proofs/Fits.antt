@@ -20,7 +20,7 @@ use Rattle.numbers.specs.Finite.{is_finite}
 use Rattle.numbers.specs.Narrowing.{narrow_of, low_square, high_square, plain_squares, rounded_of}
 use Rattle.numbers.specs.Ranges.{Power}
 use Rattle.numbers.specs.Zeros.{Zero}
-use Rattle.numbers.proofs.Narrowed.{narrow-small}
+use Rattle.numbers.proofs.NarrowedLaws.{narrow-small}
 use Rattle.numbers.proofs.Plain.{plain-is, plain-rounded, plain-number, plain-finite, zero-rounded}
 use Rattle.numbers.proofs.Ordered.{lesser-above, lt-number}
 use Rattle.numbers.proofs.Ranged.{power-add}

@@ -1,7 +1,7 @@
 pub mod Rounding
 pub mod Tests
 pub mod Values
-pub mod Narrowed
+pub mod NarrowedLaws
 pub mod Splitting
 pub mod Plain
 pub mod Overs

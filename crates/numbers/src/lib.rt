@@ -1,5 +1,7 @@
 // Number helpers: what `f32` and `f64` have as methods in Rust, with contracts in the logic's account
 // of IEEE 754 (lib.Ieee). No public function has a `requires`. A name without a width is of `f64`.
+#![tactic(auto)]
+
 mod bits;
 mod finite;
 mod narrowing;

@@ -16,14 +16,14 @@ pub const HIGH_SQUARE: f64 = 2.894802230932905e76;
 const SPLITTER: f64 = 536870913.0;
 
 // What narrowing did to a number: nothing, it rounded it, or it made a finite one infinite. A NaN or an infinity stays what it is.
-#[derive(Drop)]
+#[derive(Clone, Copy)]
 pub enum Kind {
     Exact,
     Rounded,
     Over,
 }
 
-#[derive(Drop)]
+#[derive(Clone, Copy)]
 pub struct Narrowed {
     pub value: f32,
     pub kind: Kind,

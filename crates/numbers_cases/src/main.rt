@@ -4,6 +4,8 @@
 // A line has four fields: operands a, b, c and the answer, each as the bits of a number. An operand that
 // is not used is 0, and a pattern of 32 bits stands in the low half. The letters are those in `answer`.
 // Every NaN is the same answer: `to_bits` and `to_bits32` have one pattern for all, and so has the list.
+#![tactic(auto)]
+
 ghost use Rattle.std.specs.Prelude.{◌≡◌, ◌≤◌, length};
 
 use cases::Tally;
@@ -12,7 +14,7 @@ use cases::Tally;
 const SIZE: usize = 70;
 
 // An answer's bits, or nothing where no operation has the letter.
-#[derive(Drop)]
+#[derive(Clone, Copy)]
 pub enum Found {
     Bits(u64),
     Nothing,

@@ -4,6 +4,8 @@
 //
 // At the input's end an unfinished pair is dropped. A read or a write that fails is told of on standard error, and ends the run; after a
 // failed read what was read is still recorded and flushed. No call is refused (theorem `program` of recorded).
+#![tactic(auto)]
+
 mod output;
 
 ghost use Rattle.std.specs.Prelude.{◌≡◌};
@@ -14,7 +16,7 @@ use pipe::fill;
 use tau_state::state::TauCanceller;
 
 // What a turn leaves to the next: whether to go on, and whether all that was to be written was.
-#[derive(Drop)]
+#[derive(Clone, Copy)]
 pub struct Turn {
     pub goes_on: bool,
     pub is_written: bool,

@@ -1,6 +1,8 @@
 // The payloads of one kind in a capture of records, from standard input to standard output, their bytes as they are.
 //
 // A refusal, and a read or a write that fails, get one line on standard error and end the run; what came before is written.
+#![tactic(auto)]
+
 use libc::STDOUT_FILENO;
 use record_input::Next;
 

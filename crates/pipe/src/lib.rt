@@ -1,4 +1,6 @@
 // Standard input by blocks, and a program's word on standard error.
+#![tactic(auto)]
+
 ghost use Rattle.std.specs.Prelude.{◌≤◌, length};
 
 use libc::{STDERR_FILENO, STDIN_FILENO};

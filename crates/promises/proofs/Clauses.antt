@@ -11,7 +11,7 @@ use Rattle.laws.specs.Choice.{pick, pick-if}
 use Rattle.laws.specs.Tables.{length-table}
 use Rattle.numbers.specs.Order.{min_of, max_of}
 use Rattle.numbers.specs.Narrowing.{narrow_of}
-use Rattle.numbers.proofs.Narrowed.{narrow_exact, narrow-huge, narrow-small}
+use Rattle.numbers.proofs.NarrowedLaws.{narrow_exact, narrow-huge, narrow-small}
 use Rattle.numbers.proofs.Ordered.{clamp-nan}
 use Rattle.trig.proofs.Angles.{two-pi, half-pi, turns-round, angle-even}
 use Rattle.trig.proofs.Entries.{recombination-at, twiddle-at, length-recombination}

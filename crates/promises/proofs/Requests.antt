@@ -15,7 +15,7 @@ use Rattle.numbers.specs.Finite.{is_finite}
 use Rattle.numbers.specs.declared.narrowing.Kind.{Kind}
 use Rattle.numbers.specs.declared.narrowing.Kind.TheVariants.{Exact, Rounded, Over}
 use Rattle.numbers.specs.Narrowing.{is_plain, narrow_of, kind_of}
-use Rattle.numbers.proofs.Narrowed.{narrow-huge}
+use Rattle.numbers.proofs.NarrowedLaws.{narrow-huge}
 use Rattle.numbers.proofs.Overs.{kind-exact, kind-rounded, kind-over, kind-none, size-narrows}
 use Rattle.numbers.proofs.Plain.{plain-is, plain_size, plain-rounded, plain-finite, zero-rounded}
 use Rattle.narrow_list.specs.Overs.{over_one, over_count}

@@ -5,7 +5,7 @@ ghost use Rattle.reasons.specs.Course.{start_of, goes_on, after_of, closed_of};
 use tau_state::sums::one_more;
 
 // The stretch has the blocks from number `first` on, all that came since. Where it has none, `first` is `blocks`.
-#[derive(Drop)]
+#[derive(Clone, Copy)]
 pub struct Course {
     pub blocks: u64,
     pub first: u64,

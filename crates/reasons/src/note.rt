@@ -9,7 +9,7 @@ use tau_state::report::{Last, leak_of, outcome_of, overs_of, reason_number, reas
 use text::put;
 
 // The line ends at `end`; where no stretch ended, that is 0.
-#[derive(Drop)]
+#[derive(Clone, Copy)]
 pub struct Noted {
     pub end: usize,
     pub course: Course,

@@ -10,6 +10,8 @@
 //     8   a fourth byte that is not zero, an unknown kind, a length above 4,096 or one that does not fit the kind
 //     9   fewer than six bytes, or fewer behind them than the header says
 // A refused read gives kind 0, size 0 and an empty part; a refused write writes nothing.
+#![tactic(auto)]
+
 mod kinds;
 mod reading;
 mod writing;

@@ -6,7 +6,7 @@ ghost use Rattle.record.specs.Promises as promises;
 use crate::kinds::fits;
 
 // The record's kind, and how many bytes it takes up, header and payload.
-#[derive(Drop)]
+#[derive(Clone, Copy)]
 pub struct Found {
     pub refusal: u32,
     pub kind: u32,

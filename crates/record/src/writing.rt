@@ -8,7 +8,7 @@ use crate::kinds::fits;
 
 // How many bytes of the buffer the record takes up.
 #[repr(C)]
-#[derive(Drop)]
+#[derive(Clone, Copy)]
 pub struct Written {
     pub refusal: u32,
     pub written: usize,

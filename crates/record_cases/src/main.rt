@@ -17,6 +17,8 @@
 //     2    its first eight bytes, as they stand; of a shorter one the first of these
 //     3    the seed of the noise, from the payload's first byte on
 //     4    how many places of the buffer it is lent
+#![tactic(auto)]
+
 mod made;
 
 ghost use Rattle.std.specs.Prelude.{◌≡◌, length};
@@ -31,7 +33,7 @@ const SIZE: usize = 104;
 const BEFORE: u64 = 0x2545_f491_4f6c_dd1d;
 
 // An answer, or nothing where no function has the letter, or a number of bytes is too large.
-#[derive(Drop)]
+#[derive(Clone, Copy)]
 pub enum Found {
     Number(u64),
     Nothing,

@@ -2,7 +2,7 @@
 ghost use Rattle.std.specs.Prelude.{◌≡◌, ◌-◌, ◌≤◌, length, take, drop};
 ghost use Rattle.record_input.specs.Front.{front_of, place_after};
 
-#[derive(Drop)]
+#[derive(Clone, Copy)]
 pub enum Front {
     Whole { kind: u32, size: usize },
     // The beginning of a record, or nothing.

@@ -3,6 +3,8 @@
 //
 // More is read only where the bytes held are the beginning of a record, so a record of a live pipe is handed out once its last byte is
 // there, and a refusal is known once the header is. A capture ends well between two records only.
+#![tactic(auto)]
+
 mod front;
 mod reading;
 mod said;

@@ -7,7 +7,7 @@ use libc::STDIN_FILENO;
 
 // What is read of the input and not handed out yet: the block's bytes from `from` up to `end`. The first of them is the input's byte number
 // `place`.
-#[derive(Drop)]
+#[derive(Clone, Copy)]
 pub struct Input {
     pub from: usize,
     pub end: usize,
@@ -17,7 +17,7 @@ pub struct Input {
 
 // A whole record, header and payload: the block's bytes from `from` up to `end`. It begins at the input's byte number `place`, and what
 // follows it is `rest`.
-#[derive(Drop)]
+#[derive(Clone, Copy)]
 pub struct Record {
     pub kind: u32,
     pub from: usize,
@@ -26,7 +26,7 @@ pub struct Record {
     pub rest: Input,
 }
 
-#[derive(Drop)]
+#[derive(Clone, Copy)]
 pub enum Next {
     Whole(Record),
     End,
@@ -35,7 +35,7 @@ pub enum Next {
     Failed,
 }
 
-#[derive(Drop)]
+#[derive(Clone, Copy)]
 enum Read {
     Held(Input),
     Failed,

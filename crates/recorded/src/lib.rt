@@ -4,6 +4,8 @@
 // A call leaves two records at the front of `out`: of what went in, and behind it of what was delivered. It is refused as TauCanceller's
 // own call is, 6 and then 2, and then with 5 where `out` has fewer places than any such call may need, whatever this one would need. A
 // refused call changes nothing and writes nothing.
+#![tactic(auto)]
+
 ghost use Rattle.std.specs.Prelude.{◌≡◌, true, ◌++◌, ◌≤◌, length, drop};
 ghost use Rattle.record.specs.Record.{fits_of};
 ghost use Rattle.recorded.specs.Recorded.{both_of, first_refusal};
@@ -14,7 +16,7 @@ use tau_fresh::refusals::state_refusal;
 use tau_state::state::TauCanceller;
 
 // How many bytes of the buffer the records take up, and the state after the call.
-#[derive(Drop)]
+#[derive(Clone, Copy)]
 pub struct Recorded {
     pub refusal: u32,
     pub written: usize,

@@ -2,6 +2,8 @@
 // first byte, and what it is.
 //
 // A refusal, and a read or a write that fails, get one line on standard error and end the run.
+#![tactic(auto)]
+
 ghost use Rattle.std.specs.Prelude.{◌+◌, ◌≤◌, length, take};
 ghost use Rattle.records.specs.Line.{What, Line};
 

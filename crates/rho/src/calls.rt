@@ -11,7 +11,7 @@ use rho_taps::update::clear;
 
 // What creation and reset answer.
 #[repr(C)]
-#[derive(Drop)]
+#[derive(Clone, Copy)]
 pub struct Started {
     pub refusal: u32,
     pub state: RhoCanceller,
@@ -19,7 +19,7 @@ pub struct Started {
 
 // What process and flush answer.
 #[repr(C)]
-#[derive(Drop)]
+#[derive(Clone, Copy)]
 pub struct Answer {
     pub refusal: u32,
     pub delivered: usize,

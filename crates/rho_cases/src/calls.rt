@@ -10,7 +10,7 @@ use rho::{Answer, Started};
 use rho_state::state::{Report, RhoCanceller};
 
 // What a line comes to, but for the lent buffers: the answer, the output buffer's hash, and the bits of two samples in it.
-#[derive(Drop)]
+#[derive(Clone, Copy)]
 pub struct Got {
     pub refusal: u32,
     pub delivered: usize,
@@ -22,7 +22,7 @@ pub struct Got {
 }
 
 // Nothing where no call has the letter, or a length is too large.
-#[derive(Drop)]
+#[derive(Clone, Copy)]
 pub enum Found {
     All(Got),
     Nothing,

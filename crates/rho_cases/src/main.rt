@@ -17,6 +17,8 @@
 //
 // The letters are those in calls.rt. A field without a use is 0. A power is the bits of an f64, a sample those of an f32, and every
 // NaN the same.
+#![tactic(auto)]
+
 mod calls;
 mod made;
 
@@ -30,7 +32,7 @@ use rho_state::state::RhoCanceller;
 const SIZE: usize = 376;
 
 // What a line leaves to the next one, besides the buffers.
-#[derive(Drop)]
+#[derive(Clone, Copy)]
 pub struct Turn {
     pub tally: Tally,
     pub state: RhoCanceller,

@@ -1,2 +1,4 @@
 // One pair of RhoCanceller.
+#![tactic(auto)]
+
 pub mod sample;

@@ -15,14 +15,14 @@ const GEIGEL_THRESHOLD: f32 = 0.5;
 const ERLE_SMOOTHING: f64 = 0.999;
 
 // What the pair leaves besides the buffers.
-#[derive(Drop)]
+#[derive(Clone, Copy)]
 pub struct Delivered {
     pub state: RhoCanceller,
     pub output: f32,
 }
 
 // What the filter makes of the pair.
-#[derive(Drop)]
+#[derive(Clone, Copy)]
 pub struct Judged {
     pub error: f64,
     pub energy: f64,

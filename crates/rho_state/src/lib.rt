@@ -1,3 +1,5 @@
 // RhoCanceller's state and settings, and the refusals of its calls.
+#![tactic(auto)]
+
 pub mod refusals;
 pub mod state;

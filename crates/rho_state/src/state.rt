@@ -3,7 +3,7 @@ ghost use Rattle.std.specs.Prelude.{◌≡◌, ◌≤◌};
 ghost use Rattle.rho_state.specs.State.{taps_of, hangover_of, fresh_of, empty_of, report_of};
 
 #[repr(C)]
-#[derive(Drop)]
+#[derive(Clone, Copy)]
 pub struct RhoCanceller {
     pub taps: usize,
     // The newest far sample stands at `pos` of the history.
@@ -18,7 +18,7 @@ pub struct RhoCanceller {
 
 // What the host is told: the resets since creation, and whether any freeze is left.
 #[repr(C)]
-#[derive(Drop)]
+#[derive(Clone, Copy)]
 pub struct Report {
     pub divergence_resets: u64,
     pub double_talk: bool,

@@ -25,7 +25,7 @@ use Rattle.numbers.specs.Zeros.{Zero, Plus, Blank, Fits, Still}
 use Rattle.numbers.proofs.Zeros.{pluses, plus-zero, zero-finite, zero-faint, zero-of-eq, plus-blank, plus-faint, faint-mul-right, faint-narrow, finite-true}
 use Rattle.numbers.proofs.Clean.{clean-finite, clean-same, clean-fits}
 use Rattle.numbers.proofs.Values.{sub-zero}
-use Rattle.numbers.proofs.Narrowed.{narrow_exact}
+use Rattle.numbers.proofs.NarrowedLaws.{narrow_exact}
 use Rattle.rho_state.specs.State.{taps_of, hangover_of}
 use Rattle.rho_taps.specs.Ring.{lag_slot_of, lag_of, estimate_of}
 use Rattle.rho_sample.specs.Sample.{Engine, after_of, step_of}

@@ -8,7 +8,7 @@ ghost use Rattle.rho_taps.specs.Ring.{next_of, estimate_of, window_energy_of};
 
 use crate::clean::{clean, wide};
 
-#[derive(Drop)]
+#[derive(Clone, Copy)]
 pub struct Sums {
     pub estimate: f64,
     pub energy: f64,

@@ -6,7 +6,7 @@ ghost use Rattle.self_sorting.specs.Quads.{get_s, put_s, four_of, put_four, two_
 use complex::Complex;
 use complex_fft::{butterfly, twiddle_at};
 
-#[derive(Drop)]
+#[derive(Clone, Copy)]
 pub struct Four {
     pub a: Complex,
     pub b: Complex,
@@ -15,7 +15,7 @@ pub struct Four {
 }
 
 // The twiddles of two stages: one of the first, for both of its butterflies, and two of the second.
-#[derive(Drop)]
+#[derive(Clone, Copy)]
 pub struct Turns {
     pub first: Complex,
     pub second: Complex,

@@ -5,7 +5,7 @@ ghost use Rattle.sort_manifest.specs.Reading.{held_of};
 use libc::STDIN_FILENO;
 
 // All of the input, so many bytes of it; or why there is none.
-#[derive(Drop)]
+#[derive(Clone, Copy)]
 pub enum Input {
     Whole(usize),
     TooLong,

@@ -2,6 +2,8 @@
 //
 // A manifest that is too large, and a read or a write that fails, get one line on standard error. Unless it is a write that fails,
 // nothing is then written to standard output.
+#![tactic(auto)]
+
 mod input;
 
 use input::{Input, read_all};

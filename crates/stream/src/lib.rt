@@ -4,6 +4,8 @@
 // A read may end inside a pair: what is left of it, fewer than eight bytes, waits at the block's start for the next. At the input's
 // end an unfinished pair is dropped, and the flush comes last. A read or a write that fails is told of on standard error, and ends
 // the run; after a failed read what was read is still flushed. No call is refused (theorem `program` of capture).
+#![tactic(auto)]
+
 mod output;
 
 ghost use Rattle.std.specs.Prelude.{◌≡◌, ◌<◌, ◌≤◌, length, take};
@@ -14,7 +16,7 @@ use output::{complain, emit};
 use tau_state::state::TauCanceller;
 
 // What a turn leaves to the next: how many bytes wait in the block, whether to go on, and whether all that was to be written was.
-#[derive(Drop)]
+#[derive(Clone, Copy)]
 pub struct Turn {
     pub left: usize,
     pub goes_on: bool,

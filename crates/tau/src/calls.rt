@@ -14,14 +14,14 @@ use tau_state::state::TauCanceller;
 
 // What creation and reset answer.
 #[repr(C)]
-#[derive(Drop)]
+#[derive(Clone, Copy)]
 pub struct Started {
     pub refusal: u32,
     pub state: TauCanceller,
 }
 
 // What process and flush answer.
-#[derive(Drop)]
+#[derive(Clone, Copy)]
 pub struct Answer {
     pub refusal: u32,
     pub delivered: usize,
@@ -31,7 +31,7 @@ pub struct Answer {
 
 // The same before its report is made of it. The host library makes the report as numbers: with the enums in between the compiler would copy
 // the state once more in each call.
-#[derive(Drop)]
+#[derive(Clone, Copy)]
 pub struct Unreported {
     pub refusal: u32,
     pub delivered: usize,

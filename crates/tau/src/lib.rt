@@ -1,4 +1,6 @@
 // TauCanceller: the block engine with the house detector.
+#![tactic(auto)]
+
 mod calls;
 
 pub use calls::{

@@ -20,19 +20,19 @@ use tau_state::sums::energy;
 use tau_suppressor::suppressor::suppress;
 use tau_update::update::adapt_shadow;
 
-#[derive(Drop)]
+#[derive(Clone, Copy)]
 pub struct Judged {
     pub detector: Detector,
     pub compared: Compared,
 }
 
-#[derive(Drop)]
+#[derive(Clone, Copy)]
 pub struct BothChecked {
     pub shadow: Checked,
     pub output: Checked,
 }
 
-#[derive(Drop)]
+#[derive(Clone, Copy)]
 pub struct DeliveredRest {
     pub guard: Guard,
     pub paths: Paths,
@@ -41,7 +41,7 @@ pub struct DeliveredRest {
     pub overs: u32,
 }
 
-#[derive(Drop)]
+#[derive(Clone, Copy)]
 pub struct ListenedRest {
     pub mic: MicRest,
     pub told: Told,

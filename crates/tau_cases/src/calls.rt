@@ -16,7 +16,7 @@ use tau_state::state::TauCanceller;
 
 // What a line comes to, but for the lent buffers: where there is a call as it says, its answer, the outcome and the reason by their
 // numbers, the overs, the leak by its bits, and the output buffer's hash.
-#[derive(Drop)]
+#[derive(Clone, Copy)]
 pub struct Got {
     pub is_known: bool,
     pub refusal: u32,

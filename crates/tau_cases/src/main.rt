@@ -15,6 +15,8 @@
 //     45, 46    how much is lent of the powers, and the hash of it
 //
 // A field without a use is 0.
+#![tactic(auto)]
+
 mod calls;
 
 ghost use Rattle.std.specs.Prelude.{◌≡◌, length};
@@ -28,7 +30,7 @@ use tau_state::state::TauCanceller;
 const SIZE: usize = 801;
 
 // What a line leaves to the next one, besides the buffers.
-#[derive(Drop)]
+#[derive(Clone, Copy)]
 pub struct Turn {
     pub tally: Tally,
     pub state: TauCanceller,

@@ -8,7 +8,7 @@ use crate::weights::{clear, halve};
 use tau_state::state::Paths;
 use tau_state::sums::one_more;
 
-#[derive(Drop)]
+#[derive(Clone, Copy)]
 pub struct Cleared {
     pub paths: Paths,
     pub divergence_resets: u64,

@@ -61,7 +61,7 @@ fn errors(near: &[f32; 256], est: &[f32; 256], b: &mut [f32]) -> bool
     bad
 }
 
-#[derive(Drop)]
+#[derive(Clone, Copy)]
 pub struct Checked {
     pub paths: Paths,
     pub divergence_resets: u64,

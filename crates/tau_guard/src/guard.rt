@@ -40,7 +40,7 @@ fn replace(near: &[f32; 256], valid: usize, block: &mut [f32; 256])
     }
 }
 
-#[derive(Drop)]
+#[derive(Clone, Copy)]
 pub struct GuardRest {
     pub guard: Guard,
     pub paths: Paths,

@@ -5,7 +5,7 @@ use crate::made::{array, array32, work_out};
 use tau_state::state::TauCanceller;
 
 // The state, and whether there is such an array.
-#[derive(Drop)]
+#[derive(Clone, Copy)]
 pub struct Remade {
     pub is_known: bool,
     pub state: TauCanceller,

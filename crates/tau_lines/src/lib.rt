@@ -19,6 +19,8 @@
 // The hash of what is lent of the powers stands behind these, in another field in each list.
 //
 // A number of the state is the bits of an f64, and every NaN the same.
+#![tactic(auto)]
+
 mod arrays;
 mod made;
 mod state;

@@ -24,7 +24,7 @@ const TRANSFER_FULL_ADVANTAGE: f64 = 0.5;
 const TRANSFER_RATE_MAX: f64 = 0.75;
 
 // What is asked before the two paths are compared.
-#[derive(Drop)]
+#[derive(Clone, Copy)]
 pub struct Conditions {
     pub flushing: bool,
     pub diverged: bool,
@@ -32,7 +32,7 @@ pub struct Conditions {
     pub established: bool,
 }
 
-#[derive(Drop)]
+#[derive(Clone, Copy)]
 pub struct Compared {
     pub paths: Paths,
     pub transfers: u64,

@@ -1,4 +1,6 @@
 // A Tau block whole: the loudspeaker is heard, and the microphone on it.
+#![tactic(auto)]
+
 mod run;
 
 pub use run::{Blocked, BlockedRest, run_block, run_lent};

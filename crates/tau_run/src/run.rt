@@ -11,14 +11,14 @@ use tau_state::lent::{rest_of, whole};
 use tau_state::report::Told;
 use tau_state::state::{FarRest, MicRest, TauCanceller};
 
-#[derive(Drop)]
+#[derive(Clone, Copy)]
 pub struct Blocked {
     pub state: TauCanceller,
     pub block: [f32; 256],
     pub told: Told,
 }
 
-#[derive(Drop)]
+#[derive(Clone, Copy)]
 pub struct BlockedRest {
     pub far: FarRest,
     pub mic: MicRest,

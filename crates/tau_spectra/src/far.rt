@@ -60,7 +60,7 @@ fn store(
     spectrum(table, scratch, w, &mut spectra[a..e]);
 }
 
-#[derive(Drop)]
+#[derive(Clone, Copy)]
 pub struct HeardRest {
     pub far: FarRest,
     pub far_is_active: bool,

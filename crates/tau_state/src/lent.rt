@@ -5,7 +5,7 @@ ghost use Rattle.tau_state.specs.Lent.{suppressor_of, far_rest, mic_rest, rest_o
 use crate::state::{Detector, Far, FarRest, Guard, Mic, MicRest, Paths, Powers, TauCanceller};
 
 // What the state has besides its arrays.
-#[derive(Drop)]
+#[derive(Clone, Copy)]
 pub struct Rest {
     pub partitions: usize,
     pub suppress: bool,

@@ -5,7 +5,7 @@ ghost use Rattle.tau_state.specs.Report.{number_of, leak_in, reason_number, outc
 use crate::state::Mic;
 
 // What a block did to the output filter: it did not run, no move, a rescue of the shadow, or a move with its leak.
-#[derive(Drop)]
+#[derive(Clone, Copy)]
 pub enum Outcome {
     NotRun,
     NoMove,
@@ -14,7 +14,7 @@ pub enum Outcome {
 }
 
 // Why the output filter stood still in a block: the first of these that holds. Where none does it moved, with its leak.
-#[derive(Drop)]
+#[derive(Clone, Copy)]
 pub enum Reason {
     NoBlock,
     FlushBlock,
@@ -30,21 +30,21 @@ pub enum Reason {
 
 // What a block tells of itself, besides what it leaves in the state: why its output filter stood still, and how many finite numbers became
 // infinite where its inverse transforms were narrowed.
-#[derive(Drop)]
+#[derive(Clone, Copy)]
 pub struct Told {
     pub reason: Reason,
     pub overs: u32,
 }
 
 // The last block that a call ran.
-#[derive(Drop)]
+#[derive(Clone, Copy)]
 pub enum Last {
     NoneRan,
     Did(Told),
 }
 
 // The counters and the verdict stand in the state; the outcome is that of the last block's reason, and the overs are that block's too.
-#[derive(Drop)]
+#[derive(Clone, Copy)]
 pub struct Report {
     pub transfers: u64,
     pub divergence_resets: u64,

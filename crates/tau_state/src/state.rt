@@ -5,7 +5,7 @@
 pub const DTD_ESTABLISH_BLOCKS: u32 = 64;
 
 #[repr(C)]
-#[derive(Drop)]
+#[derive(Clone, Copy)]
 pub struct Far {
     pub window: [f32; 512],
     pub head: usize,
@@ -14,7 +14,7 @@ pub struct Far {
 }
 
 #[repr(C)]
-#[derive(Drop)]
+#[derive(Clone, Copy)]
 pub struct Detector {
     pub double_talk: bool,
     pub dtd_collapsed: bool,
@@ -27,7 +27,7 @@ pub struct Detector {
 }
 
 #[repr(C)]
-#[derive(Drop)]
+#[derive(Clone, Copy)]
 pub struct Paths {
     pub shadow_error_power: f64,
     pub output_error_power: f64,
@@ -36,7 +36,7 @@ pub struct Paths {
 }
 
 #[repr(C)]
-#[derive(Drop)]
+#[derive(Clone, Copy)]
 pub struct Suppressor {
     pub echo_power: [f64; 257],
     pub error_power: [f64; 257],
@@ -45,21 +45,21 @@ pub struct Suppressor {
 }
 
 #[repr(C)]
-#[derive(Drop)]
+#[derive(Clone, Copy)]
 pub struct Guard {
     pub divergence_near_power: f64,
     pub divergence_out_power: f64,
 }
 
 #[repr(C)]
-#[derive(Drop)]
+#[derive(Clone, Copy)]
 pub struct Powers {
     pub near_power: f64,
     pub residual_power: f64,
 }
 
 #[repr(C)]
-#[derive(Drop)]
+#[derive(Clone, Copy)]
 pub struct Mic {
     pub detector: Detector,
     pub paths: Paths,
@@ -73,7 +73,7 @@ pub struct Mic {
 
 // The carries stand at the top, since a call fills them in place.
 #[repr(C)]
-#[derive(Drop)]
+#[derive(Clone, Copy)]
 pub struct TauCanceller {
     pub partitions: usize,
     pub suppress: bool,
@@ -85,7 +85,7 @@ pub struct TauCanceller {
 }
 
 // What a microphone has besides its arrays, which a call lends to the steps.
-#[derive(Drop)]
+#[derive(Clone, Copy)]
 pub struct MicRest {
     pub detector: Detector,
     pub paths: Paths,
@@ -96,7 +96,7 @@ pub struct MicRest {
 }
 
 // What the loudspeaker has besides its window.
-#[derive(Drop)]
+#[derive(Clone, Copy)]
 pub struct FarRest {
     pub head: usize,
     pub far_active: bool,

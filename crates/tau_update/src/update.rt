@@ -122,7 +122,7 @@ fn all_finite(w: &[f64]) -> bool
 }
 
 // Whether all weights are finite, and how many lags of all partitions went over.
-#[derive(Drop)]
+#[derive(Clone, Copy)]
 struct Learned {
     finite: bool,
     overs: u32,
@@ -163,7 +163,7 @@ fn learn(
     Learned { finite, overs }
 }
 
-#[derive(Drop)]
+#[derive(Clone, Copy)]
 pub struct UpdatedRest {
     pub paths: Paths,
     pub divergence_resets: u64,

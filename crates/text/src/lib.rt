@@ -1,5 +1,7 @@
 // Words and numbers end to end, in a buffer that the caller lends: what a program's line is made of. Each function puts its own behind the
 // buffer's first `at` bytes and answers where it ends.
+#![tactic(auto)]
+
 ghost use Rattle.std.specs.Prelude.{◌≡◌, ◌++◌, ◌+◌, ◌≤◌, length, take};
 ghost use Rattle.text.specs.Text.{Appended};
 

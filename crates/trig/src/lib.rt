@@ -1,4 +1,6 @@
 // det_sin and det_cos of the transform, and the table that they make. No public function has a `requires`.
+#![tactic(auto)]
+
 mod tables;
 mod trig;
 

@@ -3,6 +3,8 @@
 //
 // A call reports on its last block only. So pairs go in by pieces that fill one block at most, which changes no sample and no reason: how
 // a stream is cut into calls does not matter (tau_streams). TauCanceller has four partitions and suppression, as in program `aec`.
+#![tactic(auto)]
+
 mod output;
 
 ghost use Rattle.std.specs.Prelude.{◌≡◌, true, ◌≤◌, length};
@@ -19,7 +21,7 @@ use tau::Answer;
 use tau_state::state::TauCanceller;
 
 // Where the run is. `is_written` is whether all that was to be written was.
-#[derive(Drop)]
+#[derive(Clone, Copy)]
 pub struct Watch {
     pub is_written: bool,
     pub state: TauCanceller,

@@ -4,6 +4,8 @@
 // Pairs are read by 256, so a block's reason is known as soon as its last pair is there. At the input's end an unfinished pair is dropped,
 // and what waits is flushed. A read or a write that fails is told of on standard error, and ends the run; after a failed read what was read
 // is still told of.
+#![tactic(auto)]
+
 ghost use Rattle.std.specs.Prelude.{◌≡◌, ◌≤◌, length};
 
 use pipe::{complain, fill};

@@ -3,6 +3,8 @@
 //
 // A refusal, and a read or a write that fails, get one line on standard error and end the run; what came before a refusal or a failed read
 // is told of.
+#![tactic(auto)]
+
 ghost use Rattle.std.specs.Prelude.{◌≡◌, ◌≤◌, length};
 ghost use Rattle.why_records.specs.Called.{Called};
 

@@ -2,6 +2,8 @@
 //
 // A capture is pairs in a row, a near sample and then a far one, eight bytes. Every function here is total: what has no room in a
 // buffer is left out, and an unfinished pair is none.
+#![tactic(auto)]
+
 mod pairs;
 mod samples;
 
