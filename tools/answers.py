@@ -1,0 +1,349 @@
+#!/usr/bin/env python3
+"""Turns a crate's walked proofs (proofs/F/Proof.antt, `tie.close (tie.spec ..)`) to today's Invariants.antt and Answers.antt.
+
+usage: tools/answers.py CRATE NAMES.json [FUNCTION ..]
+       NAMES.json is what `rt check --generated DIR --old-names` writes in the crate's folder
+
+A walked proof answers its goals by their order, and cites a fact by the way back to it. The goals' names and those of the steps come
+from NAMES.json. An answer `search rules` is left out, since the check tries that by itself. What it could not turn is said, a line each.
+"""
+import json
+import os
+import re
+import sys
+
+IDENT = r"[A-Za-z_α-ωκ₀-₉ℕ][A-Za-z0-9_'₀-₉α-ω-]*"
+CHAIN = re.compile(r"(?<![A-Za-z0-9_'.«-])(" + IDENT + r")((?:\.(?:«[^»]*»|[A-Za-z0-9_'₀-₉·-]+))*)")
+LET = re.compile(r"let (" + IDENT + r") = (" + IDENT + r"(?:\.(?:«[^»]*»|[A-Za-z0-9_'-]+))*) in\s*")
+
+
+def norm(name):
+    return name.replace("-", "_")
+
+
+class Turner:
+    def __init__(self, crate, key, names, folder, said):
+        self.crate, self.names, self.folder = crate, names, folder
+        self.say = lambda t: said.append(f"{os.path.relpath(folder)}: {t}")
+        self.places = {p[0]: p for p in names["places"]}
+        self.index = {p[0]: i for i, p in enumerate(names["places"])}
+
+    def read(self):
+        with open(os.path.join(self.folder, "Proof.antt"), encoding="utf-8") as f:
+            text = f.read()
+        lines = text.split("\n")
+        head, decls, at = [], [], 0
+        while at < len(lines) and (not lines[at].strip() or lines[at].startswith(("--", "use "))):
+            head.append(lines[at])
+            at += 1
+        block = []
+        for line in lines[at:]:
+            if line and not line[0].isspace() and block and not self.goes_on(block, line):
+                decls.append("\n".join(block).rstrip())
+                block = []
+            block.append(line)
+        if "\n".join(block).strip():
+            decls.append("\n".join(block).rstrip())
+        return head, decls
+
+    @staticmethod
+    def goes_on(block, line):
+        """A signature, its `unfolding` line and its clauses are one declaration; a comment goes with what follows it."""
+        first = next((l for l in block if l and not l.startswith("--")), None)
+        if first is None:
+            return True
+        if line.startswith("--") or first.startswith("module") or line.startswith("module"):
+            return False
+        if line.startswith("unfolding"):
+            return True
+        name = re.match(r"(?:pub |abbrev |unfoldable )*(" + IDENT + r")", first)
+        return bool(name and re.match(re.escape(name[1]) + r"(?![A-Za-z0-9_'₀-₉-])", line) and not re.match(r"(?:pub |abbrev )?" + re.escape(name[1]) + r" :", line))
+
+    @staticmethod
+    def arguments(text):
+        """The arguments of tie.spec: names, and terms in parentheses."""
+        at, out = 0, []
+        while at < len(text):
+            if text[at].isspace():
+                at += 1
+            elif text[at] == "(":
+                depth, end = 0, at
+                while True:
+                    depth += {"(": 1, ")": -1}.get(text[end], 0)
+                    end += 1
+                    if depth == 0:
+                        break
+                out.append(text[at + 1:end - 1])
+                at = end
+            else:
+                end = at
+                while end < len(text) and not text[end].isspace() and text[end] not in "()":
+                    end += 1
+                out.append(text[at:end])
+                at = end
+        return out
+
+    def follow(self, place, path):
+        while path and path[0] == "before" and place:
+            place, path = self.places[place][1], path[1:]
+        return place, path
+
+    def step(self, place, path, clue):
+        """The new words for a fact: path begins with the step's old name."""
+        first = path[0]
+        if norm(first) == "requires" and len(self.required) > 1:
+            return ["c", "requires"] + self.labelled(self.required, list(path[1:]))
+        if norm(first) in ("args", "requires", "ranges", "type_inv", "well_formed", "lifetimes", "sizes", "utf8", "bounds"):
+            return ["c", "type_inv" if norm(first) == "well_formed" else first] + path[1:]
+        at = place
+        while at and norm(self.places[at][2][0]) != norm(first):
+            at = self.places[at][1]
+        if at is None:
+            found = [p for p in self.names["places"] if norm(p[2][0]) == norm(first)]
+            if not found:
+                self.say(f"{clue}: no step {first}")
+                return ["c"] + path
+            at = found[0][0]
+            self.say(f"{clue}: step {first} is not on the way")
+        rest = list(path[1:])
+        clauses = self.names["clauses"][self.index[at]]
+        if clauses and clauses.get("fields") and rest[:1] == ["ensures"]:
+            rest = ["ensures"] + self.labelled(clauses["fields"], rest[1:])
+        return ["c", self.places[at][2][1]] + rest
+
+    @staticmethod
+    def labelled(fields, rest):
+        for i, field in enumerate(fields):
+            way = ["1"] * i + (["0"] if i < len(fields) - 1 else [])
+            if rest[:len(way)] == way and way:
+                return [field] + rest[len(way):]
+        return rest
+
+    def body(self, binder, text, place, clue):
+        env = {binder: ("place", place)}
+
+        def chain(m):
+            name, path = m[1], [p for p in m[2].split(".") if p]
+            if name not in env:
+                return m[0]
+            kind, value = env[name]
+            if kind == "term":
+                if value[-1] == "ensures" and len(value) == 3:
+                    fields = self.fields_of(value[1])
+                    if fields:
+                        path = self.labelled(fields, path)
+                return ".".join(value + path)
+            at, rest = self.follow(value, path)
+            if not rest:
+                self.say(f"{clue}: a context is passed on")
+                return "c"
+            return ".".join(self.step(at, rest, clue))
+
+        out = ""
+        while True:
+            m = None
+            for it in LET.finditer(text):
+                if it[2].split(".")[0] in env:
+                    m = it
+                    break
+            if not m:
+                return (out + CHAIN.sub(chain, text)).strip()
+            out += CHAIN.sub(chain, text[:m.start()])
+            path = m[2].split(".")
+            kind, value = env[path[0]]
+            if kind == "term":
+                new = ("term", self.chain_term(value, path[1:]))
+            else:
+                at, rest = self.follow(value, path[1:])
+                new = ("place", at) if not rest else ("term", self.step(at, rest, clue))
+            env[m[1]] = new
+            text = text[m.end():]
+
+    def chain_term(self, value, path):
+        if value[-1] == "ensures" and len(value) == 3:
+            fields = self.fields_of(value[1])
+            if fields:
+                path = self.labelled(fields, path)
+        return value + path
+
+    def fields_of(self, new):
+        for i, p in enumerate(self.names["places"]):
+            if p[2][1] == new and self.names["clauses"][i]:
+                return self.names["clauses"][i].get("fields")
+        return None
+
+    def loop_decl(self, decl, changed_of):
+        m = re.match(r"abbrev (?:pub )?((invariant|decreases)-(\S+)) : tie\.\S+\n(?:unfolding [^\n]*\n)?\1 ?([^=]*)=\s*(.*)", decl, re.S)
+        unfolding = re.search(r"^unfolding .*$", decl, re.M)
+        if not m:
+            return None
+        kind, old, params, body = m[2], m[3], m[4].split(), m[5]
+        for ((was, new), names), changed in changed_of:
+            if norm(was) == norm(old):
+                break
+        else:
+            self.say(f"no loop {old}")
+            return None
+        want = len(names) + sum(changed)
+        if len(params) != want:
+            self.say(f"loop {old}: {len(params)} parameters and not {want}: {names} {changed}")
+        become = {}
+        for i, n in enumerate(names):
+            if i < len(params):
+                become[params[i]] = f"l.initial.{n}" if changed[i] else f"l.{n}"
+        for p, n in zip(params[len(names):], [n for n, c in zip(names, changed) if c]):
+            become[p] = f"l.{n}"
+
+        def turn(m):
+            word = m[1]
+            after = body[m.end():]
+            if word in become and not re.match(r"\s*=(?!=)", after) or (word in become and m[2]):
+                return become[word] + m[2]
+            return m[0]
+
+        body = CHAIN.sub(turn, body)
+        lines = [f"abbrev pub {kind}-{new} : goal.{kind}-{new}"]
+        if unfolding:
+            lines.append(unfolding[0])
+        lines.append(f"{kind}-{new} l = {body.strip()}")
+        return "\n".join(lines)
+
+    def turn(self, required, own):
+        """required, own: the labels of the function's requires and of its ensures."""
+        self.required = required
+        head, decls = self.read()
+        comments = [l for l in head if l.startswith("--")]
+        uses = [l for l in head if l.startswith("use ") and ".Statement." not in l and not l.endswith(".Tie as tie")]
+        module = f"Rattle.{self.crate}.proofs." + ".".join(os.path.relpath(self.folder, f"crates/{self.crate}/proofs").split("/"))
+        loops = list(zip(self.names["loops"], self.names["changed"]))
+        invariants, helpers, named, main = [], [], {}, None
+        for decl in decls:
+            if re.match(r"abbrev (pub )?(invariant|decreases)-\S+ : tie\.", decl):
+                it = self.loop_decl(decl, loops)
+                invariants.append(it if it else decl)
+            elif "statement M" in decl:
+                main = decl
+            elif re.match(r"(?:pub )?" + IDENT + r" : tie\.Need-", decl):
+                m = re.match(r"(?:pub )?(" + IDENT + r") : tie\.(Need-\S+)\n", decl)
+                named[m[1]] = decl
+            else:
+                helpers.append(decl)
+        if not main:
+            self.say("no main declaration")
+            return False
+        unfolding = re.search(r"^unfolding .*$", main, re.M)
+        spec = main[main.index("tie.spec") + len("tie.spec"):].strip()
+        assert spec.endswith(")"), self.folder
+        args = self.arguments(spec[:-1])
+        args = [a for a in args if not re.fullmatch(r"(invariant|decreases)-\S+", a)]
+        needs = self.names["needs"]
+        if len(args) != len(needs):
+            self.say(f"{len(args)} answers and {len(needs)} goals: {[n[1] for n in needs]}")
+        answers = []
+        for i, (arg, (was, new)) in enumerate(zip(args, needs)):
+            place = self.names["asked_at"][i][0]
+            clue = f"{was} ({new})"
+            open_ = unfolding[0] if unfolding else None
+            if arg in named:
+                decl = named[arg]
+                m = re.match(r"[^\n]*\n(unfolding [^\n]*\n)?" + re.escape(arg) + r" (\S+)(?: κs)? =\s*(.*)", decl, re.S)
+                if not m:
+                    self.say(f"{clue}: {arg} is not read")
+                    answers.append(decl)
+                    continue
+                binder, text = m[2], m[3]
+                if m[1]:
+                    open_ = m[1].strip()
+            else:
+                m = re.match(r"λ (\S+?)(?: κs)?\.\s*(.*)", arg, re.S)
+                if not m:
+                    self.say(f"{clue}: answer {arg[:60]!r}")
+                    continue
+                binder, text = m[1], m[2]
+            if text.strip() == "search rules" and not (open_ and re.search(r"returns|init|preserved|requires", new)):
+                continue
+            term = self.body(binder, text, place, clue)
+            term = self.record(term, own if new.startswith("returns") else self.names["asked"].get(was))
+            answers.append("\n".join([f"pub {new} : goal.{new}"] + ([open_] if open_ else []) + [f"{new} c = {term}"]))
+        self.write(comments, uses, module, invariants, helpers, answers)
+        return True
+
+    @classmethod
+    def record(cls, term, labels):
+        """A tuple of the clauses' answers becomes a record by their names."""
+        if not labels or len(labels) < 2 or term == "search rules":
+            return term
+        parts = cls.tuple(term, len(labels))
+        if parts:
+            return "record {\n" + "".join(f"    {l} = {p};\n" for l, p in zip(labels, parts)) + "  }"
+        return term
+
+    @classmethod
+    def tuple(cls, term, n):
+        term = term.strip()
+        m = re.match(r"((?:let [^\n]*? in\s*)*)\((.*)\)$", term, re.S)
+        if not m:
+            return None
+        inside, depth, parts, last = m[2], 0, [], 0
+        for i, ch in enumerate(inside):
+            depth += {"(": 1, "{": 1, "[": 1, ")": -1, "}": -1, "]": -1}.get(ch, 0)
+            if depth < 0:
+                return None
+            if ch == "," and depth == 0:
+                parts.append(inside[last:i].strip())
+                last = i + 1
+        parts.append(inside[last:].strip())
+        parts = [p for p in parts if p]
+        if len(parts) == 2 and n > 2:
+            more = cls.tuple(parts[1], n - 1)
+            return [m[1] + p for p in [parts[0]] + more] if more else None
+        return [m[1] + p for p in parts] if len(parts) == n else None
+
+    def write(self, comments, uses, module, invariants, helpers, answers):
+        for name, kind, decls in (("Invariants", "Given", invariants), ("Answers", "Goals", helpers + answers)):
+            if not decls or (name == "Answers" and not answers):
+                continue
+            with open(os.path.join(self.folder, name + ".antt"), "w", encoding="utf-8") as f:
+                f.write("\n".join((comments if name == "Answers" or not answers else []) + uses + [f"use {module}.{kind} as goal", ""]) + "\n" + "\n\n".join(decls) + "\n")
+
+
+def own_labels(crate):
+    """For each function of the crate, by its name, the labels of its requires and of its ensures."""
+    out = {}
+    for folder, _, files in os.walk(f"crates/{crate}/src"):
+        for n in files:
+            with open(os.path.join(folder, n), encoding="utf-8") as f:
+                text = f.read()
+            for m in re.finditer(r"\bfn (\w+)", text):
+                rest = text[m.end():]
+                end = re.search(r"^\s*\{\s*$|^\}|\{\s*$", rest, re.M)
+                clauses = rest[:end.start()] if end else rest
+                out.setdefault(m[1], [re.findall(rf"^\s*{kind} (\w+) \{{", clauses, re.M) for kind in ("requires", "ensures")])
+    return out
+
+
+def main(argv):
+    crate, path, only = argv[0], argv[1], argv[2:]
+    with open(path, encoding="utf-8") as f:
+        names = json.load(f)
+    labels, said, done = own_labels(crate), [], 0
+    for key, it in names.items():
+        m = re.fullmatch(rf"Rattle-{crate}-proofs\.(.*)\.Lts", key)
+        if not m:
+            continue
+        folder = f"crates/{crate}/proofs/" + m[1].replace(".", "/")
+        fn = m[1].split(".")[-1]
+        if only and fn not in only or not os.path.exists(os.path.join(folder, "Proof.antt")):
+            continue
+        try:
+            if Turner(crate, key, it, folder, said).turn(*labels.get(fn, [[], []])):
+                os.remove(os.path.join(folder, "Proof.antt"))
+                done += 1
+        except Exception as e:
+            said.append(f"{folder}: {type(e).__name__}: {e}")
+    print("\n".join(said))
+    print(f"{done} proofs turned")
+
+
+if __name__ == "__main__":
+    main(sys.argv[1:])
