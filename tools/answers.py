@@ -94,7 +94,7 @@ class Turner:
         if norm(first) == "requires" and len(self.required) > 1:
             return ["c", "requires"] + self.labelled(self.required, list(path[1:]))
         if norm(first) in ("args", "requires", "ranges", "type_inv", "well_formed", "lifetimes", "sizes", "utf8", "bounds"):
-            return ["c", "type_inv" if norm(first) == "well_formed" else first] + path[1:]
+            return ["c", norm(first)] + path[1:]
         at = place
         while at and norm(self.places[at][2][0]) != norm(first):
             at = self.places[at][1]
