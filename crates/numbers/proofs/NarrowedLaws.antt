@@ -4,7 +4,7 @@
 --     narrow-small   "2^-150 or less gives zero of the same sign"
 use Rattle.std.proofs.Common.{◌≡◌, ℕ, zero, suc, ◌+◌, ◌-◌, ◌*◌, ◌/◌, ◌%◌, ◌^◌, ◌<◌, ◌≤◌, Bool, true, false, cond, T, ltb, ◌⊎◌, ℤ, pos, sym, refl, ap, ◌∙◌, subst, inl, inr, true≢false, le_trans, le_of_eq, mod-eq_of_lt, mul_assoc, eq-or-lt_of_le, mul-one, arith, pow_pos}
 use native.Mathlib.Nat.{div-eq_of_lt}
-use lib.Ieee.{Float, nan, inf, fin, Format, binary32, prec, emax, low, up, down, size, odd, units, round, below, le, fits}
+use lib.Ieee.{Float, nan, inf, fin, Format, binary32, prec, emax, low, up, down, size, odd, units, round, le, fits}
 use lib.Ieee.Fits.{core, round_is, down_pos}
 use lib.Ieee.Nearest.{closest}
 use lib.Ieee.Order.{round_mono}

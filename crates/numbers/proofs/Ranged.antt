@@ -110,6 +110,14 @@ small (fin false (suc m) e) u = some (bound (le→cross (fin false (suc m) e) on
 small_mul : (f : Format) (x y : Float) → Small x → Small y → Unit (mul f x y)
 small_mul f (fin s zero e) (fin t n d) none q = subst Unit (sym (nil-mul f s t n e d)) (zero-unit (unlike s t) (pos 0))
 small_mul f (fin false (suc m) e) (fin t zero d) (some a) none = subst Unit (sym (mul-nil f false t (suc m) e d)) (zero-unit (unlike false t) (pos 0))
+small_mul f nan y p q = elim p [ ]
+small_mul f (inf s) y p q = elim p [ ]
+small_mul f (fin true (suc m) e) y p q = elim p [ ]
+small_mul f (fin s zero e) nan p q = elim q [ ]
+small_mul f (fin s zero e) (inf t) p q = elim q [ ]
+small_mul f (fin false (suc m) e) nan p q = elim q [ ]
+small_mul f (fin false (suc m) e) (inf t) p q = elim q [ ]
+small_mul f (fin false (suc m) e) (fin true (suc n) d) p q = elim q [ ]
 small_mul f (fin false (suc m) e) (fin false (suc n) d) (some a) (some b) =
     unfold mul in round-unit f (suc m * up e * (suc n * up d)) (down e * down d) (mul-pos (down_pos e) (down_pos d)) (mul-le-mul a b)
 
@@ -130,6 +138,9 @@ small-scale f (fin false (suc m) e) (fin t zero d) p h u none = subst (λ (z : F
 small-scale f (fin false (suc m) e) (fin false (suc n) d) p h u (some b) =
     let c = fin false (suc m) e in
     subst (λ (z : Float). T (le (mul f c (fin false (suc n) d)) z)) (times-one f c p h) (mul_mono f c c (fin false (suc n) d) one p p (above-none n d) tt (le-self c (unfold is_nan in tt)) u.high)
+small-scale f (fin false (suc m) e) nan p h u q = elim q [ ]
+small-scale f (fin false (suc m) e) (inf t) p h u q = elim q [ ]
+small-scale f (fin false (suc m) e) (fin true (suc n) d) p h u q = elim q [ ]
 small-scale f nan y p h u q = absurd p
 small-scale f (inf s) y p h u q = absurd p
 small-scale f (fin true m e) y p h u q = absurd p

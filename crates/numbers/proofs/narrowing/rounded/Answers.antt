@@ -2,12 +2,8 @@
 use Rattle.std.proofs.Common.{refl}
 use lib.Ieee.{of_bits}
 use Rattle.numbers.specs.Narrowing.{rounded_of}
-use Rattle.numbers.proofs.narrowing.rounded.Statement.{statement}
-use Rattle.numbers.proofs.narrowing.rounded.Tie as tie
+use Rattle.numbers.proofs.narrowing.rounded.Goals as goal
 
-returns : tie.Need-returns
+pub returns : goal.returns
 unfolding rounded_of of_bits
 returns c = refl
-
-pub rounded-spec : {M : Type 1} → statement M
-rounded-spec = tie.close (tie.spec returns)
