@@ -6,8 +6,7 @@ use borrow.Author.Tests.{le-leb, lt-leb, eq-eqb, ne_eqb}
 use lib.Dec.{eqb}
 use Rattle.laws.specs.Choice.{pick, pick_yes, pick_no}
 use Rattle.record.specs.Record.{fits_of}
-use Rattle.record.proofs.kinds.fits.Statement.{statement}
-use Rattle.record.proofs.kinds.fits.Tie as tie
+use Rattle.record.proofs.kinds.fits.Goals as goal
 
 module _ (kind n : ℕ) where
   long : 4096 < n → false ≡ fits_of kind n
@@ -41,15 +40,20 @@ module _ (kind n : ℕ) where
           unknown : (kind ≡ 4 → ⊥) → r ≡ false → r ≡ fits_of kind n
           unknown d e = last (pick_no _ _ _ (ne_eqb kind 4 d) e)
 
-pub fits-spec : {M : Type 1} → statement M
-fits-spec =
-    tie.close
-    (tie.spec
-    (λ c. long _ _ c.if1.true)
-    (λ c. pairs _ _ c.before.if1.false c.if2.true refl)
-    (λ c. samples _ _ c.before.before.if1.false c.before.if2.false c.if3.true refl)
-    (λ c. let at-4 = c.before in flush _ _ at-4.before.before.if1.false at-4.before.if2.false at-4.if3.false c.if4.true refl)
-    (λ c. let at-4 = c.before in
-    reset _ _ at-4.before.before.before.if1.false at-4.before.before.if2.false at-4.before.if3.false at-4.if4.false c.if5.true refl)
-    (λ c. let at-4 = c.before in
-    unknown _ _ at-4.before.before.before.if1.false at-4.before.before.if2.false at-4.before.if3.false at-4.if4.false c.if5.false refl))
+pub returns-then-len-gt4096 : goal.returns-then-len-gt4096
+returns-then-len-gt4096 c = long _ _ c.if-len-gt4096.true
+
+pub returns-then-kind-eq1 : goal.returns-then-kind-eq1
+returns-then-kind-eq1 c = pairs _ _ c.if-len-gt4096.false c.if-kind-eq1.true refl
+
+pub returns-then-kind-eq2 : goal.returns-then-kind-eq2
+returns-then-kind-eq2 c = samples _ _ c.if-len-gt4096.false c.if-kind-eq1.false c.if-kind-eq2.true refl
+
+pub returns-then-kind-eq3 : goal.returns-then-kind-eq3
+returns-then-kind-eq3 c = flush _ _ c.if-len-gt4096.false c.if-kind-eq1.false c.if-kind-eq2.false c.if-kind-eq3.true refl
+
+pub returns-then-kind-eq4 : goal.returns-then-kind-eq4
+returns-then-kind-eq4 c = reset _ _ c.if-len-gt4096.false c.if-kind-eq1.false c.if-kind-eq2.false c.if-kind-eq3.false c.if-kind-eq4.true refl
+
+pub returns : goal.returns
+returns c = unknown _ _ c.if-len-gt4096.false c.if-kind-eq1.false c.if-kind-eq2.false c.if-kind-eq3.false c.if-kind-eq4.false refl

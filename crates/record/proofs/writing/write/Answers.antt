@@ -4,7 +4,6 @@ use mathlib.Core.Path.{◌≡◌, sym, ap, ◌∙◌}
 use mathlib.Core.List.{List, ◌++◌}
 use Prim.Native.Nat.{ℕ, ◌+◌, ◌≤◌}
 use native.Mathlib.Omega.{arith}
-use borrow.Author.Rules.{rules}
 use borrow.Author.Tests.{eq-eqb, ne_eqb}
 use lib.ListN.{length, drop, length-drop}
 use lib.Seq.{drop-drop}
@@ -12,8 +11,7 @@ use Rattle.laws.specs.Choice.{pick_yes, pick_no}
 use Rattle.record.specs.Record.{header_of, record_of}
 use Rattle.record.specs.Writing.{write_refusal, write_of, put_of}
 use Rattle.record.proofs.Accepted.{fits-most, fits-kind, write-accepted}
-use Rattle.record.proofs.writing.write.Statement.{statement}
-use Rattle.record.proofs.writing.write.Tie as tie
+use Rattle.record.proofs.writing.write.Goals as goal
 
 module _ (kind : ℕ) (payload out : List ℕ) where
   abbrev header : List ℕ
@@ -47,38 +45,27 @@ module _ (kind : ℕ) (payload out : List ℕ) where
     after_both : {first after : List ℕ} → first ≡ put_of header' 0 out → after ≡ put_of payload 6 first → after ≡ put_of payload 6 (put_of header 0 out)
     after_both g h = h ∙ ap (put_of payload 6) (g ∙ ap (λ (l : List ℕ). put_of l 0 out) f)
 
-pub write_spec : {M : Type 1} → statement M
-write_spec =
-    tie.close
-    (tie.spec
-    (λ c κs. search rules)
-    (λ c. let s = c.before.before.before.before.args in refused s.kind s.payload.now s.out.now c.before.write-refusal.ensures c.if1.true)
-    (λ c κs. let a = write-accepted _ _ _ (sym c.before.write-refusal.ensures ∙ c.if1.false) in (fits-kind _ _ a.0, fits-most _ _ a.0))
-    (λ c. search rules)
-    (λ c κs. let at-header = c.before.before in
-    let at-refusal = at-header.before.before in
-    let s = at-refusal.before.before.before.args in
-    first-room s.kind s.payload.now s.out.now at-refusal.write-refusal.ensures at-header.before.if1.false at-header.header_of.ensures)
-    (λ c κs. let at-put = c.before.before.before in
-    let at-header = at-put.before.before.before in
-    let at-refusal = at-header.before.before in
-    let s = at-refusal.before.before.before.args in
-    second-room s.kind s.payload.now s.out.now at-refusal.write-refusal.ensures at-header.before.if1.false at-header.header_of.ensures
-    at-put.put.ensures)
-    (λ c. let at-put = c.before.before.before.before.before.before in
-    let at-header = at-put.before.before.before in
-    let at-refusal = at-header.before.before in
-    let s = at-refusal.before.before.before.args in
-    let a = write-accepted _ _ _ (sym at-refusal.write-refusal.ensures ∙ at-header.before.if1.false) in
-    let most = fits-most s.kind (length s.payload.now) a.0 in
-    omega arith)
-    (λ c. search rules)
-    (λ c. let at-put2 = c.before.before in
-    let at-put = at-put2.before.before.before.before in
-    let at-header = at-put.before.before.before in
-    let at-refusal = at-header.before.before in
-    let s = at-refusal.before.before.before.args in
-    let e = at-refusal.write-refusal.ensures in
-    let none = at-header.before.if1.false in
-    wrote s.kind s.payload.now s.out.now e none
-    (after_both s.kind s.payload.now s.out.now e none at-header.header_of.ensures at-put.put.ensures at-put2.put2.ensures)))
+pub returns-then-refusal-ne0 : goal.returns-then-refusal-ne0
+returns-then-refusal-ne0 c = refused c.args.kind c.args.payload.now c.args.out.now c.write_refusal-refusal.ensures c.if-refusal-ne0.true
+
+pub header_of-header-requires : goal.header_of-header-requires
+header_of-header-requires c = record {
+  kind_bound = let a = write-accepted _ _ _ (sym c.write_refusal-refusal.ensures ∙ c.if-refusal-ne0.false) in fits-kind _ _ a.0;
+  len_bound = let a = write-accepted _ _ _ (sym c.write_refusal-refusal.ensures ∙ c.if-refusal-ne0.false) in fits-most _ _ a.0;
+}
+
+pub put-requires : goal.put-requires
+put-requires c = first-room c.args.kind c.args.payload.now c.args.out.now c.write_refusal-refusal.ensures c.if-refusal-ne0.false c.header_of-header.ensures
+
+pub put-requires-2 : goal.put-requires-2
+put-requires-2 c = second-room c.args.kind c.args.payload.now c.args.out.now c.write_refusal-refusal.ensures c.if-refusal-ne0.false c.header_of-header.ensures
+    c.put.ensures
+
+pub overflow_add-result : goal.overflow_add-result
+overflow_add-result c = let a = write-accepted _ _ _ (sym c.write_refusal-refusal.ensures ∙ c.if-refusal-ne0.false) in
+    let most = fits-most c.args.kind (length c.args.payload.now) a.0 in
+    omega arith
+
+pub returns : goal.returns
+returns c = wrote c.args.kind c.args.payload.now c.args.out.now c.write_refusal-refusal.ensures c.if-refusal-ne0.false
+    (after_both c.args.kind c.args.payload.now c.args.out.now c.write_refusal-refusal.ensures c.if-refusal-ne0.false c.header_of-header.ensures c.put.ensures c.put-2.ensures)

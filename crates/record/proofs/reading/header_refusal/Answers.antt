@@ -4,15 +4,14 @@ use mathlib.Core.Bool.{Bool, true, false, ◌&&◌}
 use mathlib.Core.List.{List}
 use Prim.Native.Nat.{ℕ, ◌≤◌}
 use borrow.Author.Rules.{rules}
-use borrow.Author.Tests.{le-leb, eq-eqb, not-true, not-false}
+use borrow.Author.Tests.{le-leb, eq-eqb}
 use lib.Dec.{eqb}
 use lib.ListN.{length, get_or}
 use Rattle.laws.specs.Choice.{choices, pick_yes, pick_no}
 use Rattle.record.specs.Record.{fits_of}
 use Rattle.record.specs.Reading.{kind_in, length_in, header_refusal}
-use Rattle.record.proofs.reading.header_refusal.Statement.{statement}
-use Rattle.record.proofs.reading.header_refusal.Tie as tie
 use Rattle.record.proofs.Accepted.{both_so}
+use Rattle.record.proofs.reading.header_refusal.Goals as goal
 
 second : (a b : Bool) → a ≡ true → (a && b) ≡ b
 second a b h = rw h refl
@@ -34,27 +33,42 @@ module _ (s : List ℕ) {k n : ℕ} {fits : Bool} (six : 6 ≤ length s) (mark :
   unfolding header_refusal
   good h = pick_yes _ _ _ (le-leb 6 (length s) six) (pick_yes _ _ _ marked (pick_yes _ _ _ (headed ∙ h) refl))
 
-pub header-refusal-spec : {M : Type 1} → statement M
+pub returns-then-bytes-lt6 : goal.returns-then-bytes-lt6
 unfolding header_refusal
-header-refusal-spec =
-    tie.close
-    (tie.spec
-    (λ c. search (rules, choices))
-    (λ c. search rules)
-    (λ c. search (rules, choices))
-    (λ c. search rules)
-    (λ c. search (rules, choices))
-    (λ c. search rules)
-    (λ c. search (rules, choices))
-    (λ c. search rules)
-    (λ c κs. search rules)
-    (λ c κs. search rules)
-    (λ c κs. search rules)
-    (λ c. let at_wide = c.before.before.before in
-    misfit at_wide.before.before.before.before.before.before.before.before.before.before.args.bytes.now
+returns-then-bytes-lt6 c = search (rules, choices)
+
+pub returns-then-bytes : goal.returns-then-bytes
+unfolding header_refusal
+returns-then-bytes c = search (rules, choices)
+
+pub returns-then-bytes-ne14 : goal.returns-then-bytes-ne14
+unfolding header_refusal
+returns-then-bytes-ne14 c = search (rules, choices)
+
+pub returns-then-bytes-ne0 : goal.returns-then-bytes-ne0
+unfolding header_refusal
+returns-then-bytes-ne0 c = search (rules, choices)
+
+pub wide-requires : goal.wide-requires
+unfolding header_refusal
+wide-requires c = search rules
+
+pub length_in-requires : goal.length_in-requires
+unfolding header_refusal
+length_in-requires c = search rules
+
+pub fits-requires : goal.fits-requires
+unfolding header_refusal
+fits-requires c = search rules
+
+pub returns-then-not-fits : goal.returns-then-not-fits
+unfolding header_refusal
+returns-then-not-fits c = misfit c.args.bytes.now
     (search rules) (search rules) (search rules) (search rules)
-    at_wide.wide.ensures.0 c.before.before.length-in.ensures c.before.fits2.ensures (not-true _ c.if5.true))
-    (λ c. let at_wide = c.before.before.before in
-    good at_wide.before.before.before.before.before.before.before.before.before.before.args.bytes.now
+    c.wide.ensures.value c.length_in.ensures c.fits.ensures c.if-not-fits.true
+
+pub returns : goal.returns
+unfolding header_refusal
+returns c = good c.args.bytes.now
     (search rules) (search rules) (search rules) (search rules)
-    at_wide.wide.ensures.0 c.before.before.length-in.ensures c.before.fits2.ensures (not-false _ c.if5.false)))
+    c.wide.ensures.value c.length_in.ensures c.fits.ensures c.if-not-fits.false

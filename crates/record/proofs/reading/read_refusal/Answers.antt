@@ -1,4 +1,5 @@
 -- `record::read_refusal` meets its contract: the header's refusal, and then what the test of the payload picks. Assumes nothing.
+-- the header is good, and n is the length that it says
 use mathlib.Core.Path.{◌≡◌, refl, sym, ◌∙◌}
 use mathlib.Core.List.{List}
 use Prim.Native.Nat.{ℕ, ◌+◌, ◌-◌, ◌≤◌, ◌<◌}
@@ -9,10 +10,8 @@ use lib.ListN.{length}
 use Rattle.laws.specs.Choice.{pick_yes, pick_no}
 use Rattle.record.specs.Reading.{length_in, header_refusal, read_refusal}
 use Rattle.record.proofs.Accepted.{header-six}
-use Rattle.record.proofs.reading.read_refusal.Statement.{statement}
-use Rattle.record.proofs.reading.read_refusal.Tie as tie
+use Rattle.record.proofs.reading.read_refusal.Goals as goal
 
--- the header is good, and n is the length that it says
 module _ (s : List ℕ) {n first : ℕ} (header : first ≡ header_refusal s) (none : first ≡ 0) (len : n ≡ length_in s) where
   short : length s - 6 < n → 9 ≡ read_refusal s
   unfolding read_refusal
@@ -24,14 +23,26 @@ module _ (s : List ℕ) {n first : ℕ} (header : first ≡ header_refusal s) (n
       let six = header-six s (sym header ∙ none) in
       pick_yes _ _ _ (eq-eqb (header_refusal s) 0 (sym header ∙ none)) (pick_yes _ _ _ (le-leb (6 + length_in s) (length s) (rw (← len) (omega arith))) refl)
 
-pub read-refusal-spec : {M : Type 1} → statement M
+pub header_refusal-first-requires : goal.header_refusal-first-requires
 unfolding read_refusal
-read-refusal-spec =
-    tie.close
-    (tie.spec
-    (λ c κs. search rules)
-    (λ c. rw (← c.before.header-refusal.ensures) (pick_no _ _ _ (ne_eqb _ _ c.if1.true) refl))
-    (λ c. header-six _ (sym c.before.header-refusal.ensures ∙ c.if1.false))
-    (λ c κs. header-six _ (sym c.before.header-refusal.ensures ∙ c.if1.false))
-    (λ c. short _ c.before.before.before.header-refusal.ensures c.before.before.if1.false c.before.length-in.ensures c.if2.true)
-    (λ c. whole _ c.before.before.before.header-refusal.ensures c.before.before.if1.false c.before.length-in.ensures c.if2.false))
+header_refusal-first-requires c = search rules
+
+pub returns-then-first-ne0 : goal.returns-then-first-ne0
+unfolding read_refusal
+returns-then-first-ne0 c = rw (← c.header_refusal-first.ensures) (pick_no _ _ _ (ne_eqb _ _ c.if-first-ne0.true) refl)
+
+pub overflow_sub-bytes : goal.overflow_sub-bytes
+unfolding read_refusal
+overflow_sub-bytes c = header-six _ (sym c.header_refusal-first.ensures ∙ c.if-first-ne0.false)
+
+pub length_in-requires : goal.length_in-requires
+unfolding read_refusal
+length_in-requires c = header-six _ (sym c.header_refusal-first.ensures ∙ c.if-first-ne0.false)
+
+pub returns-then-bytes-length_in : goal.returns-then-bytes-length_in
+unfolding read_refusal
+returns-then-bytes-length_in c = short _ c.header_refusal-first.ensures c.if-first-ne0.false c.length_in.ensures c.if-bytes-length_in.true
+
+pub returns : goal.returns
+unfolding read_refusal
+returns c = whole _ c.header_refusal-first.ensures c.if-first-ne0.false c.length_in.ensures c.if-bytes-length_in.false
