@@ -16,40 +16,40 @@ use contract.Monad.{Fun, fact}
 use Rattle.std.specs.Borrow.{Bor}
 use denote.Triple.Entry.{Args, Res}
 use denote.Triple.Clauses.{Ended, Clauses, AtExit}
-use Rattle.numbers.proofs as numbers
+use Rattle.numbers.specs.contracts as numbers
 use Rattle.numbers.specs.Promises.{Abs, Min, Max, Clamp, Lesser, IsFinite, FiniteOrZero, Widen, Narrow, NarrowBits, NarrowTold, KindNumber, IsPlain, PlainSquares, Rounded}
 use Rattle.numbers.specs.Promises.{FromBits, FromBits32, ToBits, ToBits32}
-use Rattle.narrow_list.proofs as narrow_list
+use Rattle.narrow_list.specs.contracts as narrow_list
 use Rattle.narrow_list.specs.Promises.{NarrowInto, OversScaled}
-use Rattle.trig.proofs as trig
+use Rattle.trig.specs.contracts as trig
 use Rattle.trig.specs.Promises.{DetSin, DetCos, Recombination}
 use Rattle.complex.specs.contracts.Complex as complex
 use Rattle.complex.specs.Promises.{New, Conj, Add, Sub, Mul, Scale}
-use Rattle.complex_fft.proofs as complex_fft
+use Rattle.complex_fft.specs.contracts as complex_fft
 use Rattle.complex_fft.specs.Promises.{ComplexForward, ComplexInverse, ReversalTable, Butterfly}
-use Rattle.fft.proofs as fft
+use Rattle.fft.specs.contracts as fft
 use Rattle.fft.specs.Promises.{Forward, Inverse, ForwardWith, InverseWith, InverseHalfWith, RefusedKeeps}
-use Rattle.rho.proofs as rho
+use Rattle.rho.specs.contracts as rho
 use Rattle.rho_state.specs.declared.state.RhoCanceller.{RhoCanceller}
 use Rattle.rho_sample.specs.Sample as rho_sample
 use Rattle.rho.specs.Promises as rho_promises
-use Rattle.tau.proofs as tau
+use Rattle.tau.specs.contracts as tau
 use Rattle.tau_state.specs.declared.state.TauCanceller.{TauCanceller}
 use Rattle.tau_frame.specs.Pairs.{Engine}
 use Rattle.tau.specs.Promises as tau_promises
-use Rattle.capi.proofs as capi
+use Rattle.capi.specs.contracts as capi
 use Rattle.capi.specs.Promises.{TauProcess, TauFlush, RecordRead, NarrowKind}
-use Rattle.wire.proofs as wire
+use Rattle.wire.specs.contracts as wire
 use Rattle.wire.specs.Promises.{WholePairs, ReadNear, ReadFar, KeepRest, WriteSamples}
-use Rattle.capture.proofs as capture
+use Rattle.capture.specs.contracts as capture
 use Rattle.capture.specs.Promises.{Feed, Finish}
-use Rattle.record.proofs as records
+use Rattle.record.specs.contracts as records
 use Rattle.record.specs.Promises.{Read, Payload, Write}
-use Rattle.recorded.proofs as recorded
+use Rattle.recorded.specs.contracts as recorded
 use Rattle.recorded.specs.Promises as recorded_promises
-use Rattle.line_order.proofs as line_order
+use Rattle.line_order.specs.contracts as line_order
 use Rattle.line_order.specs.Promises.{AtMost}
-use Rattle.manifest.proofs as manifest
+use Rattle.manifest.specs.contracts as manifest
 use Rattle.manifest.specs.Promises.{Sort}
 
 -- what may be said over a signature
