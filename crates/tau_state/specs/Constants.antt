@@ -1,5 +1,5 @@
 -- The constants of the block, by their bits, and the smoothing that many steps share.
-use Rattle.std.specs.Prelude.{ℕ, Float}
+use Rattle.std.specs.Prelude.{Float}
 use Rattle.std.specs.Float.{binary32, binary64}
 use Rattle.std.specs.Float.Ieee.{add, sub, mul, of_bits}
 
