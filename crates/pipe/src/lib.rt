@@ -1,23 +1,45 @@
-// Standard input by blocks, and a program's word on standard error.
+// Standard input by blocks, and a program's word on standard error: over any reader and writer.
 #![tactic(auto)]
 
-ghost use Rattle.std.specs.Prelude.{◌≤◌, length};
+ghost use Rattle.std.specs.Prelude.{◌≡◌, ◌≤◌, true, length, take, IfSome, IfNone};
+ghost use Rattle.std.specs.Io.KnownBytes.{Appends, Consumes, Keeps};
 
-use libc::{STDERR_FILENO, STDIN_FILENO};
+use std::io::{Read, Write};
+
+// One read: how many bytes it put at the block's front, none only where the input has ended or the block has no room; or nothing, where it
+// failed.
+pub fn read_some<R: Read>(input: &mut R, block: &mut [u8]) -> Option<usize>
+    ensures in_bounds { IfSome result (λ n. n ≤ length block.new) }
+    ensures bytes { IfSome result (λ n. Consumes (R.remaining input.old) (R.remaining input.new) (take n block.new)) }
+    ensures failed { IfNone result (Keeps (R.remaining input.old) (R.remaining input.new)) }
+{
+    input.read(block).ok()
+}
+
+// Whether all the bytes were written.
+pub fn write_all<W: Write>(output: &mut W, bytes: &[u8]) -> bool
+    ensures { result ≡ true → Appends (W.contents output.old) (W.contents output.new) bytes.now }
+{
+    output.write_all(bytes).is_ok()
+}
 
 // Reads until the block is full, the input ends or a read fails, which is said: a read of a pipe may give a part only. How many bytes the
 // block then holds.
-pub fn fill(program: &[u8], block: &mut [u8]) -> usize
-    ensures { result ≤ length block.new }
+pub fn fill<R: Read, W: Write>(
+    input: &mut R,
+    errors: &mut W,
+    program: &[u8],
+    block: &mut [u8],
+) -> usize
+    ensures in_bounds { result ≤ length block.new }
+    ensures bytes { Consumes (R.remaining input.old) (R.remaining input.new) (take result block.new) }
 {
     let mut held = 0usize;
     while held < block.len() {
-        let got = libc::read(STDIN_FILENO, &mut block[held..]);
-        if got < 0 {
-            complain(program, b": a read failed\n");
+        let Some(more) = read_some(input, &mut block[held..]) else {
+            complain(errors, program, b": a read failed\n");
             return held;
-        }
-        let more = io::count(got, &block[held..]);
+        };
         if more == 0 {
             return held;
         }
@@ -27,7 +49,7 @@ pub fn fill(program: &[u8], block: &mut [u8]) -> usize
 }
 
 // The program's name, and what it has to say.
-pub fn complain(program: &[u8], line: &[u8]) {
-    io::write_all(STDERR_FILENO, program);
-    io::write_all(STDERR_FILENO, line);
+pub fn complain<W: Write>(errors: &mut W, program: &[u8], line: &[u8]) {
+    write_all(errors, program);
+    write_all(errors, line);
 }
