@@ -260,9 +260,12 @@ class Turner:
                     self.say(f"{clue}: answer {arg[:60]!r}")
                     continue
                 binder, text = m[1], m[2]
-            if text.strip() == "search rules" and not (open_ and re.search(r"returns|init|preserved|requires", new)):
+            if text.strip() == "search rules" and not (open_ and re.search(r"returns|init|preserved", new)):
                 continue
             term = self.body(binder, text, place, clue)
+            # A test `!b` now gives `b ≡ false` itself.
+            term = re.sub(r"not-(?:true|false) (?:c\.[^\s()]+|_) (c\.if-[^\s()]+)", r"\1", term)
+            term = re.sub(r"\((c\.if-[^\s()]+)\)", r"\1", term)
             term = self.record(term, own if new.startswith("returns") else self.names["asked"].get(was))
             answers.append("\n".join([f"pub {new} : goal.{new}"] + ([open_] if open_ else []) + [f"{new} c = {term}"]))
         self.write(comments, uses, module, invariants, helpers, answers)

@@ -1,0 +1,13 @@
+use mathlib.Core.Path.{refl}
+use borrow.Author.Tests.{eq-eqb, ne_eqb}
+use Rattle.laws.specs.Choice.{pick_yes, pick_no}
+use Rattle.rho_state.specs.Refusals.{process_refusal}
+use Rattle.rho_state.proofs.refusals.process_refusal.Goals as goal
+
+pub returns-then-first-ne0 : goal.returns-then-first-ne0
+unfolding process_refusal
+returns-then-first-ne0 c = rw (← c.state_refusal-first.ensures) (pick_no _ _ _ (ne_eqb _ _ c.if-first-ne0.true) refl)
+
+pub returns : goal.returns
+unfolding process_refusal
+returns c = rw (← c.state_refusal-first.ensures) (pick_yes _ _ _ (eq-eqb _ _ c.if-first-ne0.false) c.pairs_refusal.ensures)
