@@ -10,8 +10,8 @@ use borrow.Author.Tests.{eqb-true, eq-eqb}
 use lib.ListN.{length, get_or}
 use lib.Seq.{ext_get_or}
 use lib.Ieee.{Float, nan}
-use Rattle.laws.specs.Choice.{pick, pick-if, pick_yes, pick_no}
-use Rattle.laws.specs.Tables.{table, length-table, table_at}
+use Rattle.laws.specs.Choice.{pick-if, pick_yes, pick_no}
+use Rattle.laws.specs.Tables.{length-table, table_at}
 use Rattle.layout.specs.Layout.{place, back, moved, paired, stored}
 use Rattle.layout.proofs.Places.{back-place, place-back, place-below, back_below}
 

@@ -1,0 +1,7 @@
+use mathlib.Core.Path.{sym, ◌∙◌}
+use borrow.Author.Rules.{rules}
+use Rattle.layout.proofs.Bins.{bin-one}
+use Rattle.layout.proofs.get.Goals as goal
+
+pub returns : goal.returns
+returns c = c.new.ensures ∙ sym (bin-one _ _ (search rules) (search rules))
