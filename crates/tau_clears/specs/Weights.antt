@@ -1,5 +1,5 @@
 -- What is done to all weights of a filter at once, number by number. Definitions only.
-use Rattle.std.specs.Prelude.{List, map, ℕ, get_or, length, replicate, Float}
+use Rattle.std.specs.Prelude.{List, map, get_or, length, replicate, Float}
 use Rattle.std.specs.Float.{nan, binary64}
 use Rattle.std.specs.Float.Ieee.{add, sub, mul}
 use Rattle.laws.specs.Loops.{over}

@@ -1,0 +1,19 @@
+use mathlib.Core.Path.{◌∙◌}
+use lib.Ieee.{nan}
+use Rattle.laws.specs.Loops.{loops, over-whole}
+use Rattle.laws.specs.Readings.{over-copy}
+use Rattle.tau_clears.specs.Weights.{cleared, halved, leaked}
+use borrow.Author.Rules.{rules}
+use Rattle.tau_clears.proofs.weights.copy.Goals as goal
+
+pub loop-i-init : goal.loop-i-init
+unfolding cleared halved leaked
+loop-i-init c = search (rules, loops)
+
+pub loop-i-preserved : goal.loop-i-preserved
+unfolding cleared halved leaked
+loop-i-preserved c = search (rules, loops)
+
+pub returns : goal.returns
+unfolding cleared halved leaked
+returns c = over-whole _ _ _ c.loop-i.invariant.2 (search rules) ∙ over-copy nan c.args.s.now c.args.d.now (search rules)
