@@ -2,6 +2,9 @@
 // makes of it (oracle/capture.rs).
 #![tactic(auto)]
 
-fn main() {
-    stream::run();
+fn main(rt: HostRuntime) {
+    let mut stdin = rt.stdin();
+    let mut stdout = rt.stdout();
+    let mut stderr = rt.stderr();
+    stream::run(&mut stdin, &mut stdout, &mut stderr);
 }

@@ -13,6 +13,7 @@ ghost use Rattle.recorded.specs.Program.{engine_by, block_of, flush_of, buffers_
 
 use output::emit;
 use pipe::fill;
+use std::io::{Read, Write};
 use tau_state::state::TauCanceller;
 
 // What a turn leaves to the next: whether to go on, and whether all that was to be written was.
@@ -23,18 +24,33 @@ pub struct Turn {
     pub state: TauCanceller,
 }
 
-fn main() {
+fn main(rt: HostRuntime) {
+    let mut stdin = rt.stdin();
+    let mut stdout = rt.stdout();
+    let mut stderr = rt.stderr();
     let mut shadow = [0.0f64; 2056];
     let mut output = [0.0f64; 2056];
     let mut spectra = [0.0f64; 2056];
     let mut powers = [0.0f64; 1028];
     let started = tau::create(4, true, &mut shadow, &mut output, &mut spectra, &mut powers);
     let state = started.state;
-    drive(state, &mut shadow, &mut output, &mut spectra, &mut powers);
+    drive(
+        &mut stdin,
+        &mut stdout,
+        &mut stderr,
+        state,
+        &mut shadow,
+        &mut output,
+        &mut spectra,
+        &mut powers,
+    );
 }
 
 // A proved loop has to end, and nothing says that the input does. So it counts its turns down, from a number that no run uses up.
-fn drive(
+fn drive<R: Read, W: Write, E: Write>(
+    stdin: &mut R,
+    stdout: &mut W,
+    stderr: &mut E,
     start: TauCanceller,
     shadow: &mut [f64],
     output: &mut [f64],
@@ -47,7 +63,9 @@ fn drive(
     let mut is_written = true;
     let mut turns = u64::MAX;
     while turns > 0 && goes_on {
-        let turn = one_turn(state, &mut block, shadow, output, spectra, powers);
+        let turn = one_turn(
+            stdin, stdout, stderr, state, &mut block, shadow, output, spectra, powers,
+        );
         goes_on = turn.goes_on;
         is_written = turn.is_written;
         let after = turn.state;
@@ -55,12 +73,15 @@ fn drive(
         turns -= 1;
     }
     if is_written {
-        finish(state, shadow, output, spectra, powers);
+        finish(stdout, stderr, state, shadow, output, spectra, powers);
     }
 }
 
 // One block. Where it has no whole pair the input has ended, and there is nothing to record.
-fn one_turn(
+fn one_turn<R: Read, W: Write, E: Write>(
+    stdin: &mut R,
+    stdout: &mut W,
+    stderr: &mut E,
     state: TauCanceller,
     block: &mut [u8],
     shadow: &mut [f64],
@@ -68,7 +89,7 @@ fn one_turn(
     spectra: &mut [f64],
     powers: &mut [f64],
 ) -> Turn {
-    let held = fill(b"pack", block);
+    let held = fill(stdin, stderr, b"pack", block);
     if held < 8 {
         return Turn {
             goes_on: false,
@@ -76,11 +97,22 @@ fn one_turn(
             state,
         };
     }
-    worked(&block[..held], state, shadow, output, spectra, powers)
+    worked(
+        stdout,
+        stderr,
+        &block[..held],
+        state,
+        shadow,
+        output,
+        spectra,
+        powers,
+    )
 }
 
 // The pairs of a block, and what they deliver. All but the writing is said: the engine after it. A block that is not full is the last.
-fn worked(
+fn worked<W: Write, E: Write>(
+    stdout: &mut W,
+    stderr: &mut E,
     held: &[u8],
     state: TauCanceller,
     shadow: &mut [f64],
@@ -92,7 +124,7 @@ fn worked(
 {
     let mut out = [0u8; 6156];
     let recorded = recorded::feed(state, shadow, output, spectra, powers, held, &mut out);
-    let is_written = emit(&out, recorded.written);
+    let is_written = emit(stdout, stderr, &out, recorded.written);
     let after = recorded.state;
     Turn {
         goes_on: is_written && held.len() == 4096,
@@ -101,16 +133,18 @@ fn worked(
     }
 }
 
-fn finish(
+fn finish<W: Write, E: Write>(
+    stdout: &mut W,
+    stderr: &mut E,
     state: TauCanceller,
     shadow: &mut [f64],
     output: &mut [f64],
     spectra: &mut [f64],
     powers: &mut [f64],
 )
-    ensures { record { shadow = shadow.exit.now; output = output.new; spectra = spectra.new; powers = powers.new } ≡ buffers_by (flush_of (record { state = state; shadow = shadow.entry.now; output = output.old; spectra = spectra.old; powers = powers.old })) }
+    ensures { record { shadow = shadow.new; output = output.new; spectra = spectra.new; powers = powers.new } ≡ buffers_by (flush_of (record { state = state; shadow = shadow.old; output = output.old; spectra = spectra.old; powers = powers.old })) }
 {
     let mut out = [0u8; 1036];
     let recorded = recorded::finish(state, shadow, output, spectra, powers, &mut out);
-    emit(&out, recorded.written);
+    emit(stdout, stderr, &out, recorded.written);
 }

@@ -1,16 +1,16 @@
 // Writing.
 ghost use Rattle.std.specs.Prelude.{◌≤◌, length};
 
-use libc::STDOUT_FILENO;
 use pipe::complain;
+use std::io::Write;
 
 // Writes the first `count` bytes, and says whether it could.
-pub fn emit(bytes: &[u8], count: usize) -> bool
+pub fn emit<W: Write, E: Write>(stdout: &mut W, stderr: &mut E, bytes: &[u8], count: usize) -> bool
     requires { count ≤ length bytes.now }
 {
-    let is_written = io::write_all(STDOUT_FILENO, &bytes[..count]);
+    let is_written = pipe::write_all(stdout, &bytes[..count]);
     if !is_written {
-        complain(b"pack", b": a write failed\n");
+        complain(stderr, b"pack", b": a write failed\n");
     }
     is_written
 }

@@ -11,8 +11,8 @@ mod output;
 ghost use Rattle.std.specs.Prelude.{◌≡◌, ◌<◌, ◌≤◌, length, take};
 ghost use Rattle.capture.specs.Program.{turn_of, ended_of, buffers_by};
 
-use libc::STDIN_FILENO;
-use output::{complain, emit};
+use output::emit;
+use std::io::{Read, Write};
 use tau_state::state::TauCanceller;
 
 // What a turn leaves to the next: how many bytes wait in the block, whether to go on, and whether all that was to be written was.
@@ -24,18 +24,30 @@ pub struct Turn {
     pub state: TauCanceller,
 }
 
-pub fn run() {
+pub fn run<R: Read, W: Write, E: Write>(stdin: &mut R, stdout: &mut W, stderr: &mut E) {
     let mut shadow = [0.0f64; 2056];
     let mut output = [0.0f64; 2056];
     let mut spectra = [0.0f64; 2056];
     let mut powers = [0.0f64; 1028];
     let started = tau::create(4, true, &mut shadow, &mut output, &mut spectra, &mut powers);
     let state = started.state;
-    drive(state, &mut shadow, &mut output, &mut spectra, &mut powers);
+    drive(
+        stdin,
+        stdout,
+        stderr,
+        state,
+        &mut shadow,
+        &mut output,
+        &mut spectra,
+        &mut powers,
+    );
 }
 
 // A proved loop has to end, and nothing says that the input does. So it counts its turns down, from a number that no run uses up.
-fn drive(
+fn drive<R: Read, W: Write, E: Write>(
+    stdin: &mut R,
+    stdout: &mut W,
+    stderr: &mut E,
     start: TauCanceller,
     shadow: &mut [f64],
     output: &mut [f64],
@@ -49,7 +61,9 @@ fn drive(
     let mut is_written = true;
     let mut turns = u64::MAX;
     while turns > 0 && goes_on {
-        let turn = one_turn(left, state, &mut block, shadow, output, spectra, powers);
+        let turn = one_turn(
+            stdin, stdout, stderr, left, state, &mut block, shadow, output, spectra, powers,
+        );
         left = turn.left;
         goes_on = turn.goes_on;
         is_written = turn.is_written;
@@ -58,12 +72,15 @@ fn drive(
         turns -= 1;
     }
     if is_written {
-        finish(state, shadow, output, spectra, powers);
+        finish(stdout, stderr, state, shadow, output, spectra, powers);
     }
 }
 
 // One read of at most 32,768 bytes, behind those that wait, and what it makes whole.
-fn one_turn(
+fn one_turn<R: Read, W: Write, E: Write>(
+    stdin: &mut R,
+    stdout: &mut W,
+    stderr: &mut E,
     left: usize,
     state: TauCanceller,
     block: &mut [u8],
@@ -77,20 +94,23 @@ fn one_turn(
     ensures { result.left < 8 }
 {
     let end = left + 32768;
-    let got = libc::read(STDIN_FILENO, &mut block[left..end]);
-    if got < 0 {
-        complain(b"aec: a read failed\n");
+    let Some(more) = pipe::read_some(stdin, &mut block[left..end]) else {
+        pipe::complain(stderr, b"aec", b": a read failed\n");
+        return ended(left, state);
+    };
+    if more == 0 {
         return ended(left, state);
     }
-    if got == 0 {
-        return ended(left, state);
-    }
-    let held = left + io::count(got, &block[left..end]);
-    worked(held, state, block, shadow, output, spectra, powers)
+    let held = left + more;
+    worked(
+        stdout, stderr, held, state, block, shadow, output, spectra, powers,
+    )
 }
 
 // The pairs among the bytes held, and what they deliver. All but the writing is said: the engine and the bytes that then wait.
-fn worked(
+fn worked<W: Write, E: Write>(
+    stdout: &mut W,
+    stderr: &mut E,
     held: usize,
     state: TauCanceller,
     block: &mut [u8],
@@ -114,7 +134,7 @@ fn worked(
         &mut bytes,
     );
     wire::keep_rest(held, block);
-    let is_written = emit(&bytes, answer.delivered);
+    let is_written = emit(stdout, stderr, &bytes, answer.delivered);
     let after = answer.state;
     Turn {
         left: held % 8,
@@ -137,16 +157,18 @@ fn ended(left: usize, state: TauCanceller) -> Turn
 }
 
 // The flush, into a buffer of its own: 256 samples are more than can wait.
-fn finish(
+fn finish<W: Write, E: Write>(
+    stdout: &mut W,
+    stderr: &mut E,
     state: TauCanceller,
     shadow: &mut [f64],
     output: &mut [f64],
     spectra: &mut [f64],
     powers: &mut [f64],
 )
-    ensures { record { shadow = shadow.exit.now; output = output.new; spectra = spectra.new; powers = powers.new } ≡ buffers_by (ended_of (record { state = state; shadow = shadow.entry.now; output = output.old; spectra = spectra.old; powers = powers.old })) }
+    ensures { record { shadow = shadow.new; output = output.new; spectra = spectra.new; powers = powers.new } ≡ buffers_by (ended_of (record { state = state; shadow = shadow.old; output = output.old; spectra = spectra.old; powers = powers.old })) }
 {
     let mut bytes = [0u8; 1024];
     let answer = capture::finish(state, shadow, output, spectra, powers, &mut bytes);
-    emit(&bytes, answer.delivered);
+    emit(stdout, stderr, &bytes, answer.delivered);
 }

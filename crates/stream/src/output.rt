@@ -1,20 +1,16 @@
 // Writing.
 ghost use Rattle.std.specs.Prelude.{◌*◌, ◌≤◌, length};
 
-use libc::{STDERR_FILENO, STDOUT_FILENO};
+use std::io::Write;
 
 // Writes the bytes of `count` samples, and says whether it could.
-pub fn emit(bytes: &[u8], count: usize) -> bool
+pub fn emit<W: Write, E: Write>(stdout: &mut W, stderr: &mut E, bytes: &[u8], count: usize) -> bool
     requires { 4 * count ≤ length bytes.now }
 {
     let end = 4 * count;
-    let is_written = io::write_all(STDOUT_FILENO, &bytes[..end]);
+    let is_written = pipe::write_all(stdout, &bytes[..end]);
     if !is_written {
-        complain(b"aec: a write failed\n");
+        pipe::complain(stderr, b"aec", b": a write failed\n");
     }
     is_written
-}
-
-pub fn complain(line: &[u8]) {
-    io::write_all(STDERR_FILENO, line);
 }

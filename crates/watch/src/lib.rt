@@ -17,6 +17,7 @@ use reasons::course;
 use reasons::course::Course;
 use reasons::note::{note, put_reset, put_stretch};
 use reasons::tally::put_summary;
+use std::io::Write;
 use tau::Answer;
 use tau_state::state::TauCanceller;
 
@@ -47,7 +48,8 @@ pub fn start(
 }
 
 // The whole pairs of `bytes`. What is said of the run holds where all was written: after a failed write the rest of them is left.
-pub fn pairs(
+pub fn pairs<W: Write>(
+    stdout: &mut W,
     w: Watch,
     bytes: &[u8],
     shadow: &mut [f64],
@@ -67,6 +69,7 @@ pub fn pairs(
         let state = after.state;
         let end = at + lesser(bytes.len() - at, 8 * (256 - state.carried));
         let next = fed(
+            stdout,
             after,
             &bytes[at..end],
             shadow,
@@ -83,7 +86,8 @@ pub fn pairs(
 
 // One call. Of its buffer for bytes nothing is used: it is as long as that of program `aec`, so that what is proved of its calls holds of
 // this one.
-fn fed(
+fn fed<W: Write>(
+    stdout: &mut W,
     w: Watch,
     piece: &[u8],
     shadow: &mut [f64],
@@ -101,11 +105,12 @@ fn fed(
     let state = w.state;
     let course = w.course;
     let answer = capture::feed(state, shadow, output, spectra, powers, piece, &mut unused);
-    told(answer, course, counts)
+    told(stdout, answer, course, counts)
 }
 
 // What waits for its block is a block of its own.
-pub fn flush(
+pub fn flush<W: Write>(
+    stdout: &mut W,
     w: Watch,
     shadow: &mut [f64],
     output: &mut [f64],
@@ -122,11 +127,11 @@ pub fn flush(
     let state = w.state;
     let course = w.course;
     let answer = capture::finish(state, shadow, output, spectra, powers, &mut unused);
-    told(answer, course, counts)
+    told(stdout, answer, course, counts)
 }
 
 // What a call's report adds, and the line of a stretch that it ends.
-fn told(answer: Answer, course: Course, counts: &mut [u64]) -> Watch
+fn told<W: Write>(stdout: &mut W, answer: Answer, course: Course, counts: &mut [u64]) -> Watch
     requires { length counts.old ≡ 11 }
     ensures state_value { result.state ≡ answer.state }
     ensures course_value { result.course ≡ course_after course answer.report.last }
@@ -136,7 +141,7 @@ fn told(answer: Answer, course: Course, counts: &mut [u64]) -> Watch
     let report = answer.report;
     let last = report.last;
     let noted = note(course, last, counts, &mut line);
-    let is_written = emit(&line, noted.end);
+    let is_written = emit(stdout, &line, noted.end);
     let state = answer.state;
     let then = noted.course;
     Watch {
@@ -147,7 +152,8 @@ fn told(answer: Answer, course: Course, counts: &mut [u64]) -> Watch
 }
 
 // The engine is reset, which a line says.
-pub fn reset(
+pub fn reset<W: Write>(
+    stdout: &mut W,
     w: Watch,
     shadow: &mut [f64],
     output: &mut [f64],
@@ -162,7 +168,7 @@ pub fn reset(
     let state = w.state;
     let course = w.course;
     let end = put_reset(course, &mut text);
-    let is_written = emit(&text, end);
+    let is_written = emit(stdout, &text, end);
     let started = tau::reset(state, shadow, output, spectra, powers);
     let after = started.state;
     Watch {
@@ -173,7 +179,7 @@ pub fn reset(
 }
 
 // The last stretch and the summary, where all before them was written. Whether all was.
-pub fn finish(w: Watch, counts: &[u64]) -> bool
+pub fn finish<W: Write>(stdout: &mut W, w: Watch, counts: &[u64]) -> bool
     requires { length counts.now ≡ 11 }
 {
     if !w.is_written {
@@ -184,5 +190,5 @@ pub fn finish(w: Watch, counts: &[u64]) -> bool
     let course = w.course;
     let end = put_stretch(course, &mut line);
     let size = put_summary(course.blocks, counts, &mut summary);
-    emit(&line, end) && emit(&summary, size)
+    emit(stdout, &line, end) && emit(stdout, &summary, size)
 }

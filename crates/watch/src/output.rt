@@ -1,11 +1,11 @@
 // Writing.
 ghost use Rattle.std.specs.Prelude.{◌≤◌, length};
 
-use libc::STDOUT_FILENO;
+use std::io::Write;
 
 // Writes the first `count` bytes, and says whether it could.
-pub fn emit(bytes: &[u8], count: usize) -> bool
+pub fn emit<W: Write>(stdout: &mut W, bytes: &[u8], count: usize) -> bool
     requires { count ≤ length bytes.now }
 {
-    io::write_all(STDOUT_FILENO, &bytes[..count])
+    pipe::write_all(stdout, &bytes[..count])
 }

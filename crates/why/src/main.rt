@@ -9,9 +9,13 @@
 ghost use Rattle.std.specs.Prelude.{◌≡◌, ◌≤◌, length};
 
 use pipe::{complain, fill};
+use std::io::{Read, Write};
 use watch::Watch;
 
-fn main() {
+fn main(rt: HostRuntime) {
+    let mut stdin = rt.stdin();
+    let mut stdout = rt.stdout();
+    let mut stderr = rt.stderr();
     let mut shadow = [0.0f64; 2056];
     let mut output = [0.0f64; 2056];
     let mut spectra = [0.0f64; 2056];
@@ -19,6 +23,9 @@ fn main() {
     let mut counts = [0u64; 11];
     let start = watch::start(&mut shadow, &mut output, &mut spectra, &mut powers);
     drive(
+        &mut stdin,
+        &mut stdout,
+        &mut stderr,
         start,
         &mut shadow,
         &mut output,
@@ -29,7 +36,10 @@ fn main() {
 }
 
 // A proved loop has to end, and nothing says that the input does. So it counts its turns down, from a number that no run uses up.
-fn drive(
+fn drive<R: Read, W: Write, E: Write>(
+    stdin: &mut R,
+    stdout: &mut W,
+    stderr: &mut E,
     start: Watch,
     shadow: &mut [f64],
     output: &mut [f64],
@@ -45,8 +55,9 @@ fn drive(
     let mut goes_on = true;
     let mut turns = u64::MAX;
     while turns > 0 && goes_on {
-        let held = fill(b"why", &mut block);
+        let held = fill(stdin, stderr, b"why", &mut block);
         let next = watch::pairs(
+            stdout,
             watch,
             &block[..held],
             shadow,
@@ -59,13 +70,14 @@ fn drive(
         goes_on = next.is_written && held == 2048;
         turns -= 1;
     }
-    if !finish(watch, shadow, output, spectra, powers, counts) {
-        complain(b"why", b": a write failed\n");
+    if !finish(stdout, watch, shadow, output, spectra, powers, counts) {
+        complain(stderr, b"why", b": a write failed\n");
     }
 }
 
 // The flush and the end, unless a write has failed before. Whether all was written.
-fn finish(
+fn finish<W: Write>(
+    stdout: &mut W,
     watch: Watch,
     shadow: &mut [f64],
     output: &mut [f64],
@@ -79,6 +91,6 @@ fn finish(
     if !watch.is_written {
         return false;
     }
-    let flushed = watch::flush(watch, shadow, output, spectra, powers, counts);
-    watch::finish(flushed, counts)
+    let flushed = watch::flush(stdout, watch, shadow, output, spectra, powers, counts);
+    watch::finish(stdout, flushed, counts)
 }

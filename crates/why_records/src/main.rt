@@ -9,9 +9,13 @@ ghost use Rattle.std.specs.Prelude.{◌≡◌, ◌≤◌, length};
 ghost use Rattle.why_records.specs.Called.{Called};
 
 use record_input::Next;
+use std::io::{Read, Write};
 use watch::Watch;
 
-fn main() {
+fn main(rt: HostRuntime) {
+    let mut stdin = rt.stdin();
+    let mut stdout = rt.stdout();
+    let mut stderr = rt.stderr();
     let mut shadow = [0.0f64; 2056];
     let mut output = [0.0f64; 2056];
     let mut spectra = [0.0f64; 2056];
@@ -19,6 +23,9 @@ fn main() {
     let mut counts = [0u64; 11];
     let start = watch::start(&mut shadow, &mut output, &mut spectra, &mut powers);
     drive(
+        &mut stdin,
+        &mut stdout,
+        &mut stderr,
         start,
         &mut shadow,
         &mut output,
@@ -29,7 +36,10 @@ fn main() {
 }
 
 // A proved loop has to end, and nothing says that the input does. So it counts its turns down, from a number that no run uses up.
-fn drive(
+fn drive<R: Read, W: Write, E: Write>(
+    stdin: &mut R,
+    stdout: &mut W,
+    stderr: &mut E,
     start: Watch,
     shadow: &mut [f64],
     output: &mut [f64],
@@ -45,16 +55,17 @@ fn drive(
     let mut watch = start;
     let mut turns = u64::MAX;
     while turns > 0 && watch.is_written {
-        let next = record_input::next_record(input, &mut block);
+        let next = record_input::next_record(stdin, input, &mut block);
         let Next::Whole(record) = next else {
-            finish(watch, counts);
-            record_input::say(b"why", next);
+            finish(stdout, stderr, watch, counts);
+            record_input::say(stderr, b"why", next);
             return;
         };
         let from = record.from;
         let end = record.end;
         let payload = record::payload(&block[from..end]);
         let after = called(
+            stdout,
             watch,
             record.kind,
             payload,
@@ -69,11 +80,12 @@ fn drive(
         input = rest;
         turns -= 1;
     }
-    finish(watch, counts);
+    finish(stdout, stderr, watch, counts);
 }
 
 // The call that a record of this kind tells of.
-fn called(
+fn called<W: Write>(
+    stdout: &mut W,
     watch: Watch,
     kind: u32,
     payload: &[u8],
@@ -89,21 +101,23 @@ fn called(
     ensures called { Called kind payload.now (record { engine = record { state = watch.state; shadow = shadow.old; output = output.old; spectra = spectra.old; powers = powers.old }; course = watch.course; counts = counts.old }) result.is_written (record { engine = record { state = result.state; shadow = shadow.new; output = output.new; spectra = spectra.new; powers = powers.new }; course = result.course; counts = counts.new }) }
 {
     if kind == 1 {
-        return watch::pairs(watch, payload, shadow, output, spectra, powers, counts);
+        return watch::pairs(
+            stdout, watch, payload, shadow, output, spectra, powers, counts,
+        );
     }
     if kind == 3 {
-        return watch::flush(watch, shadow, output, spectra, powers, counts);
+        return watch::flush(stdout, watch, shadow, output, spectra, powers, counts);
     }
     if kind == 4 {
-        return watch::reset(watch, shadow, output, spectra, powers);
+        return watch::reset(stdout, watch, shadow, output, spectra, powers);
     }
     watch
 }
 
-fn finish(watch: Watch, counts: &[u64])
+fn finish<W: Write, E: Write>(stdout: &mut W, stderr: &mut E, watch: Watch, counts: &[u64])
     requires { length counts.now ≡ 11 }
 {
-    if !watch::finish(watch, counts) {
-        record_input::say_failed_write(b"why");
+    if !watch::finish(stdout, watch, counts) {
+        record_input::say_failed_write(stderr, b"why");
     }
 }
