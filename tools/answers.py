@@ -95,11 +95,12 @@ class Turner:
             return ["c", "requires"] + self.labelled(self.required, list(path[1:]))
         if norm(first) in ("args", "requires", "ranges", "type_inv", "well_formed", "lifetimes", "sizes", "utf8", "bounds"):
             return ["c", norm(first)] + path[1:]
+        first = norm(first)[:1].lower() + norm(first)[1:]
         at = place
-        while at and norm(self.places[at][2][0]) != norm(first):
+        while at and norm(self.places[at][2][0]) != first:
             at = self.places[at][1]
         if at is None:
-            found = [p for p in self.names["places"] if norm(p[2][0]) == norm(first)]
+            found = [p for p in self.names["places"] if norm(p[2][0]) == first]
             if not found:
                 self.say(f"{clue}: no step {first}")
                 return ["c"] + path
@@ -133,6 +134,8 @@ class Turner:
                     if fields:
                         path = self.labelled(fields, path)
                 return ".".join(value + path)
+            if name == "at" and not path:
+                return m[0]
             at, rest = self.follow(value, path)
             if not rest:
                 self.say(f"{clue}: a context is passed on")
@@ -244,6 +247,7 @@ class Turner:
             place = self.names["asked_at"][i][0]
             clue = f"{was} ({new})"
             open_ = unfolding[0] if unfolding else None
+            more = ""
             if arg in named:
                 decl = named[arg]
                 m = re.match(r"[^\n]*\n(unfolding [^\n]*\n)?" + re.escape(arg) + r" (\S+)(?: κs)? =\s*(.*)", decl, re.S)
@@ -255,11 +259,12 @@ class Turner:
                 if m[1]:
                     open_ = m[1].strip()
             else:
-                m = re.match(r"λ (\S+?)(?: κs)?\.\s*(.*)", arg, re.S)
+                m = re.match(r"λ (\S+?)((?: [^\s.]+)*)\.\s*(.*)", arg, re.S)
                 if not m:
                     self.say(f"{clue}: answer {arg[:60]!r}")
                     continue
-                binder, text = m[1], m[2]
+                binder, text = m[1], m[3]
+                more = "".join(f" {x}" for x in m[2].split() if x != "κs")
             if text.strip() == "search rules" and not (open_ and re.search(r"returns|init|preserved", new)):
                 continue
             term = self.body(binder, text, place, clue)
@@ -267,7 +272,7 @@ class Turner:
             term = re.sub(r"not-(?:true|false) (?:c\.[^\s()]+|_) (c\.if-[^\s()]+)", r"\1", term)
             term = re.sub(r"\((c\.if-[^\s()]+)\)", r"\1", term)
             term = self.record(term, own if new.startswith("returns") else self.names["asked"].get(was))
-            answers.append("\n".join([f"pub {new} : goal.{new}"] + ([open_] if open_ else []) + [f"{new} c = {term}"]))
+            answers.append("\n".join([f"pub {new} : goal.{new}"] + ([open_] if open_ else []) + [f"{new} c{more} = {term}"]))
         self.write(comments, uses, module, invariants, helpers, answers)
         return True
 

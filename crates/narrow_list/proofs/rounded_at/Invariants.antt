@@ -1,0 +1,13 @@
+use mathlib.Core.Path.{◌≡◌}
+use Prim.Native.Nat.{◌+◌, ◌-◌, ◌≤◌}
+use lib.Ieee.{nan}
+use lib.ListN.{get_or}
+use Rattle.laws.specs.Loops.{over}
+use Rattle.numbers.specs.Narrowing.{narrow_of}
+use Rattle.narrow_list.proofs.rounded_at.Given as goal
+
+abbrev pub invariant-loop-k : goal.invariant-loop-k
+invariant-loop-k l = (l.k ≤ 32) × (l.r ≡ over l.k (λ j x. narrow_of (get_or l.xs (l.at + j) nan)) l.initial.r)
+
+abbrev pub decreases-loop-k : goal.decreases-loop-k
+decreases-loop-k l = 32 - l.k

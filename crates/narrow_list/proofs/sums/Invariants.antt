@@ -1,0 +1,12 @@
+use mathlib.Core.Path.{◌≡◌}
+use Prim.Native.Nat.{◌-◌, ◌≤◌}
+use lib.Ieee.{binary64, add}
+use Rattle.laws.specs.Loops.{over}
+use Rattle.narrow_list.specs.Lanes.{lane_of}
+use Rattle.narrow_list.proofs.sums.Given as goal
+
+abbrev pub invariant-loop-k : goal.invariant-loop-k
+invariant-loop-k l = (l.k ≤ 8) × (l.s ≡ over l.k (λ j x. lane_of (add binary64) l.q j) l.initial.s)
+
+abbrev pub decreases-loop-k : goal.decreases-loop-k
+decreases-loop-k l = 8 - l.k
