@@ -2,7 +2,7 @@
 --     Decimal n t        t is n in decimal digits, no more of them than it takes
 --     Appended n s t     t is s with n in decimal digits behind it
 use Rattle.std.specs.Prelude.{◌≡◌, List, ◌++◌, ℕ}
-use Rattle.io.specs.Digits.{last_digits, IsDigitCount}
+use Rattle.text.specs.Digits.{last_digits, IsDigitCount}
 
 pub record Decimal (n : ℕ) (t : List ℕ) : Type 0 where
   pub places : ℕ

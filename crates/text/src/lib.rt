@@ -2,8 +2,13 @@
 // buffer's first `at` bytes and answers where it ends.
 #![tactic(auto)]
 
+mod digits;
+
 ghost use Rattle.std.specs.Prelude.{◌≡◌, ◌++◌, ◌+◌, ◌≤◌, length, take};
+ghost use Rattle.text.specs.Digits.{last_digits};
 ghost use Rattle.text.specs.Text.{Appended};
+
+use digits::{digit_count, write_digits};
 
 pub fn put(word: &[u8], at: usize, out: &mut [u8]) -> usize
     requires { at + length word.now ≤ length out.old }
@@ -25,6 +30,18 @@ pub fn put_decimal(n: u64, at: usize, out: &mut [u8]) -> usize
     ensures appended { Appended n (take at out.old) (take result out.new) }
 {
     let mut digits = [0u8; 20];
-    let count = io::decimal(n, &mut digits);
+    let count = digit_count(n, 10, 1);
+    write_digits(n, 10, count, &mut digits);
     put(&digits[..count], at, out)
+}
+
+// A number's 16 hex digits, in lower case.
+pub fn put_hex(n: u64, at: usize, out: &mut [u8]) -> usize
+    requires { at + 16 ≤ length out.old }
+    ensures value { result ≡ at + 16 }
+    ensures out_after { take result out.new ≡ take at out.old ++ last_digits 16 16 n }
+{
+    let mut digits = [0u8; 16];
+    write_digits(n, 16, 16, &mut digits);
+    put(&digits, at, out)
 }

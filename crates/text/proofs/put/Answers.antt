@@ -1,15 +1,14 @@
 -- `text::put` meets its contract: after k turns the word's first k bytes stand behind the buffer's first `at`. Assumes nothing.
 use mathlib.Core.Path.{◌≡◌, refl, sym, ap, ◌∙◌}
 use mathlib.Core.List.{List, ◌++◌, append_assoc}
-use Prim.Native.Nat.{ℕ, ◌+◌, ◌-◌, ◌≤◌}
+use Prim.Native.Nat.{ℕ, ◌+◌, ◌≤◌}
 use native.Mathlib.Omega.{arith}
 use borrow.Author.Rules.{rules}
 use lib.ListN.{length, get_or, take, drop, length-set, length-append}
 use lib.Seq.{take_at, length-take-le}
 use Rattle.laws.specs.Loops.{loops, over_at, over_at-next}
 use Rattle.laws.specs.Readings.{over_at-pasted}
-use Rattle.text.proofs.put.Statement.{statement}
-use Rattle.text.proofs.put.Tie as tie
+use Rattle.text.proofs.put.Goals as goal
 
 front : (word d : List ℕ) (at k : ℕ) {b : List ℕ} → at + length word ≤ length d → b ≡ over_at at k (λ j x. get_or word j 0) d
     → k ≤ length word → length word ≤ k → take (at + length word) b ≡ take at d ++ word
@@ -19,26 +18,14 @@ front word d at k {b} h e l g =
     ap (take (at + length word)) (over_at-pasted 0 at k word d e l g h ∙ sym (append_assoc (take at d) word (drop (at + length word) d)))
     ∙ take_at (take at d ++ word) (drop (at + length word) d) (at + length word) long
 
-abbrev invariant-loop : tie.invariant-loop
-invariant-loop word at out₀ k₀ out k =
-    (length out ≡ length out₀) × (k ≤ length word) × (out ≡ over_at at k (λ j x. get_or word j 0) out₀)
+pub loop-k-init : goal.loop-k-init
+loop-k-init c = search (rules, loops)
 
-abbrev decreases-loop : tie.decreases-loop
-decreases-loop word at out₀ k₀ out k = length word - k
+pub loop-k-preserved : goal.loop-k-preserved
+loop-k-preserved c = (simp length-set c.loop-k.invariant.0, omega arith, over_at-next 0 _ _ _ _ c.loop-k.invariant.2 refl)
 
-pub put_spec : {M : Type 1} → statement M
-put_spec =
-    tie.close
-    (tie.spec invariant-loop decreases-loop
-    (λ c. search (rules, loops))
-    (λ c. search rules)
-    (λ c. search rules)
-    (λ c. search rules)
-    (λ c. search rules)
-    (λ c. search rules)
-    (λ c. let at = c.before.before.loop in (simp length-set at.invariant.0, omega arith, over_at-next 0 _ _ _ _ at.invariant.2 refl))
-    (λ c. search rules)
-    (λ c. search rules)
-    (λ c. let at = c.before.loop in
-    let s = c.before.before.args in
-    (search rules, front s.word.now s.out.now s.at at.k (search rules) at.invariant.2 at.invariant.1 (search rules))))
+pub returns : goal.returns
+returns c = record {
+  value = search rules;
+  out_after = front c.args.word.now c.args.out.now c.args.at c.loop-k.k (search rules) c.loop-k.invariant.2 c.loop-k.invariant.1 (search rules);
+}
