@@ -3,7 +3,8 @@ ghost use Rattle.std.specs.Prelude.{◌≡◌, false, ◌+◌, ◌-◌, ◌≤�
 ghost use Rattle.record_input.specs.Reading.{Lies, Says, Grew, start_of, taken_of};
 
 use crate::front::{Front, at_front, place_after, to_front};
-use libc::STDIN_FILENO;
+use pipe::read_some;
+use std::io;
 
 // What is read of the input and not handed out yet: the block's bytes from `from` up to `end`. The first of them is the input's byte number
 // `place`.
@@ -54,7 +55,7 @@ pub fn start() -> Input
 }
 
 // The next record. It stays in the block until the next call.
-pub fn next_record(input: Input, block: &mut [u8]) -> Next
+pub fn next_record<R: io::Read>(stdin: &mut R, input: Input, block: &mut [u8]) -> Next
     requires in_bounds { 4102 ≤ length block.old }
     requires lies { Lies input block.old }
     ensures { Says input.place result block.new }
@@ -75,7 +76,7 @@ pub fn next_record(input: Input, block: &mut [u8]) -> Next
             }
             Front::Begun => {}
         }
-        let Read::Held(after) = read_more(held, block) else {
+        let Read::Held(after) = read_more(stdin, held, block) else {
             return Next::Failed;
         };
         held = after;
@@ -103,7 +104,7 @@ fn record_at(held: Input, kind: u32, size: usize) -> Record
 }
 
 // One read behind what is held, which goes to the block's front first.
-fn read_more(held: Input, block: &mut [u8]) -> Read
+fn read_more<R: io::Read>(stdin: &mut R, held: Input, block: &mut [u8]) -> Read
     requires lies { Lies held block.old }
     requires ended_value { (held.ended ≡ false) × (held.end - held.from < length block.old) }
     ensures { Grew held result block.old block.new }
@@ -112,11 +113,9 @@ fn read_more(held: Input, block: &mut [u8]) -> Read
     let end = held.end;
     to_front(from, end, block);
     let left = end - from;
-    let got = libc::read(STDIN_FILENO, &mut block[left..]);
-    if got < 0 {
+    let Some(more) = read_some(stdin, &mut block[left..]) else {
         return Read::Failed;
-    }
-    let more = io::count(got, &block[left..]);
+    };
     Read::Held(Input {
         from: 0,
         end: left + more,

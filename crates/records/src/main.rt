@@ -7,25 +7,33 @@
 ghost use Rattle.std.specs.Prelude.{◌+◌, ◌≤◌, length, take};
 ghost use Rattle.records.specs.Line.{What, Line};
 
-use libc::STDOUT_FILENO;
+use pipe::write_all;
 use record_input::Next;
+use std::io::{Read, Write};
 use text::{put, put_decimal};
 
-fn main() {
+fn main(rt: HostRuntime) {
+    let mut stdin = rt.stdin();
+    let mut stdout = rt.stdout();
+    let mut stderr = rt.stderr();
+    run(&mut stdin, &mut stdout, &mut stderr);
+}
+
+fn run<R: Read, W: Write, E: Write>(stdin: &mut R, stdout: &mut W, stderr: &mut E) {
     let mut block = [0u8; 36870];
     let mut input = record_input::start();
     let mut number = 0u64;
     while number < u64::MAX {
-        let next = record_input::next_record(input, &mut block);
+        let next = record_input::next_record(stdin, input, &mut block);
         let Next::Whole(record) = next else {
-            record_input::say(b"records", next);
+            record_input::say(stderr, b"records", next);
             return;
         };
         let from = record.from;
         let end = record.end;
         let payload = record::payload(&block[from..end]);
-        if !show(number, record.place, record.kind, payload.len()) {
-            record_input::say_failed_write(b"records");
+        if !show(stdout, number, record.place, record.kind, payload.len()) {
+            record_input::say_failed_write(stderr, b"records");
             return;
         }
         let rest = record.rest;
@@ -34,10 +42,10 @@ fn main() {
     }
 }
 
-fn show(number: u64, place: u64, kind: u32, size: usize) -> bool {
+fn show<W: Write>(stdout: &mut W, number: u64, place: u64, kind: u32, size: usize) -> bool {
     let mut line = [0u8; 80];
     let end = put_line(number, place, kind, size, &mut line);
-    io::write_all(STDOUT_FILENO, &line[..end])
+    write_all(stdout, &line[..end])
 }
 
 // The line of a record whose payload has `size` bytes. Two numbers, what the record is, a blank and the line's end are 70 bytes at most.
