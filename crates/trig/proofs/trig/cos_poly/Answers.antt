@@ -2,9 +2,8 @@
 use mathlib.Core.Path.{refl}
 use lib.Ieee.{of_bits, of_int}
 use Rattle.trig.specs.Trig.{horner, cos_coefficients, cos_poly}
-use Rattle.trig.proofs.trig.cos_poly.Statement.{statement}
-use Rattle.trig.proofs.trig.cos_poly.Tie as tie
+use Rattle.trig.proofs.trig.cos_poly.Goals as goal
 
-pub cos-poly-spec : {M : Type 1} → statement M
+pub returns : goal.returns
 unfolding horner cos_coefficients cos_poly of_bits of_int
-cos-poly-spec = tie.close (tie.spec (λ c. refl))
+returns c = refl

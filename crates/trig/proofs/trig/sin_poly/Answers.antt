@@ -2,9 +2,8 @@
 use mathlib.Core.Path.{refl}
 use lib.Ieee.{of_bits, of_int}
 use Rattle.trig.specs.Trig.{horner, sin_coefficients, sin_poly}
-use Rattle.trig.proofs.trig.sin_poly.Statement.{statement}
-use Rattle.trig.proofs.trig.sin_poly.Tie as tie
+use Rattle.trig.proofs.trig.sin_poly.Goals as goal
 
-pub sin-poly-spec : {M : Type 1} → statement M
+pub returns : goal.returns
 unfolding horner sin_coefficients sin_poly of_bits of_int
-sin-poly-spec = tie.close (tie.spec (λ c. refl))
+returns c = refl

@@ -6,12 +6,8 @@ use Rattle.numbers.specs.Same.{same, same-eq}
 use Rattle.trig.specs.Trig.{angle, det_sin, det_cos}
 use Rattle.trig.specs.Tables.{recombination}
 use Rattle.trig.proofs.Computed.{computed}
-use Rattle.trig.proofs.tables.recombination.Statement.{statement}
-use Rattle.trig.proofs.tables.recombination.Tie as tie
+use Rattle.trig.proofs.tables.recombination.Goals as goal
 
-returns : tie.Need-returns
+pub returns : goal.returns
 unfolding computed recombination
 returns c = is-table2 same same-eq (λ k. det_cos (angle 512 k)) (λ k. det_sin (angle 512 k)) 257 _ refl tt
-
-pub recombination-spec : {M : Type 1} → statement M
-recombination-spec = tie.close (tie.spec returns)
