@@ -8,11 +8,8 @@ use lib.ListN.{length, get_or, set, take, drop, length-set, length-drop}
 use lib.Seq.{get_or-drop, length-take-le, take_at}
 use Rattle.laws.specs.Loops.{loops, over, over-next, over-ahead, over-end}
 use Rattle.laws.specs.Readings.{over-copied}
-use Rattle.record_input.proofs.front.to_front.Statement.{statement}
-use Rattle.record_input.proofs.front.to_front.Tie as tie
-
-abbrev moved : ℕ → List ℕ → ℕ → ℕ → ℕ
-moved from d k x = get_or (drop from d) k 0
+use Rattle.record_input.proofs.front.to_front.Invariants.{moved}
+use Rattle.record_input.proofs.front.to_front.Goals as goal
 
 turn : (d : List ℕ) (from k : ℕ) {b : List ℕ} → b ≡ over k (moved from d) d → set b k (get_or b (from + k) 0) ≡ over (k + 1) (moved from d) d
 turn d from k {b} e =
@@ -29,28 +26,11 @@ front d from end k {b} h l e f g =
     ap (take n) (over-end (moved from d) d k n e f g ∙ over-copied 0 n s d long (omega arith))
     ∙ take_at (take n s) (drop n d) n (length-take-le n s long)
 
-abbrev invariant-loop : tie.invariant-loop
-invariant-loop from end block₀ n k₀ block k =
-    (length block ≡ length block₀) × (k ≤ end - from) × (block ≡ over k (moved from block₀) block₀)
+pub loop-k-init : goal.loop-k-init
+loop-k-init c = search (rules, loops)
 
-abbrev decreases-loop : tie.decreases-loop
-decreases-loop from end block₀ n k₀ block k = n - k
+pub loop-k-preserved : goal.loop-k-preserved
+loop-k-preserved c = (simp length-set c.loop-k.invariant.0, omega arith, turn c.args.block.now c.args.from _ c.loop-k.invariant.2)
 
-pub to-front-spec : {M : Type 1} → statement M
-to-front-spec =
-    tie.close
-    (tie.spec invariant-loop decreases-loop
-    (λ c. search rules)
-    (λ c. search (rules, loops))
-    (λ c. search rules)
-    (λ c. search rules)
-    (λ c. search rules)
-    (λ c. search rules)
-    (λ c. search rules)
-    (λ c. let at = c.before.before.loop in
-    let s = c.before.before.before.args in
-    (simp length-set at.invariant.0, omega arith, turn s.block.now s.from _ at.invariant.2))
-    (λ c. search rules)
-    (λ c. let at = c.before.loop in
-    let s = c.before.before.args in
-    front s.block.now s.from s.end at.k (search rules) (search rules) at.invariant.2 at.invariant.1 (search rules)))
+pub returns : goal.returns
+returns c = front c.args.block.now c.args.from c.args.end c.loop-k.k (search rules) (search rules) c.loop-k.invariant.2 c.loop-k.invariant.1 (search rules)
