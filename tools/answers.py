@@ -128,14 +128,10 @@ class Turner:
             if name not in env:
                 return m[0]
             kind, value = env[name]
-            if kind == "term":
-                if value[-1] == "ensures" and len(value) == 3:
-                    fields = self.fields_of(value[1])
-                    if fields:
-                        path = self.labelled(fields, path)
-                return ".".join(value + path)
             if name == "at" and not path:
                 return m[0]
+            if kind == "term":
+                return ".".join(self.chain_term(value, path))
             at, rest = self.follow(value, path)
             if not rest:
                 self.say(f"{clue}: a context is passed on")
@@ -163,11 +159,12 @@ class Turner:
             text = text[m.end():]
 
     def chain_term(self, value, path):
-        if value[-1] == "ensures" and len(value) == 3:
-            fields = self.fields_of(value[1])
+        words = value + path
+        if len(words) > 3 and words[2] == "ensures":
+            fields = self.fields_of(words[1])
             if fields:
-                path = self.labelled(fields, path)
-        return value + path
+                return words[:3] + self.labelled(fields, words[3:])
+        return words
 
     def fields_of(self, new):
         for i, p in enumerate(self.names["places"]):

@@ -210,7 +210,7 @@ pub fn adapt(
 ) -> u64
     requires weights_len { length weights.old ≡ length history.now }
     requires pos_in_bounds { pos < length history.now }
-    ensures { record { weights = weights.exit.now; resets = result } ≡ adapted_of fine freeze (scale_of error energy) history.now pos (length history.now) weights.entry.now resets }
+    ensures { record { weights = weights.new; resets = result } ≡ adapted_of fine freeze (scale_of error energy) history.now pos (length history.now) weights.old resets }
 {
     if !fine {
         clear(weights);
