@@ -21,7 +21,7 @@ use Rattle.numbers.specs.Finite.{plus}
 use Rattle.numbers.specs.Order.{min_of}
 use Rattle.numbers.specs.Ranges.{one}
 use Rattle.numbers.proofs.Ordered.{total, min-right, same-of-le}
-use Rattle.tau_state.specs.Constants.{zero64, f0·1, f0·5, f0·75}
+use Rattle.tau_state.specs.Constants.{f0·1, f0·5, f0·75}
 use Rattle.tau_steps.specs.Bounds.{Leak}
 use Rattle.tau_state.specs.Sums.{energy_of}
 use Rattle.tau_clears.specs.Clears.{diverge_shadow, diverge_of, retire_output}

@@ -1,7 +1,7 @@
 -- The outcome of the reason that is decided on. Assumes nothing.
 --     reason-if        what is so of each outcome, where its tests say it, is so of the reason's outcome
 --     reason-idle      where the comparison does not run there is no move
-use mathlib.Core.Path.{◌≡◌, refl, sym, subst, ◌∙◌}
+use mathlib.Core.Path.{◌≡◌, refl, sym, ◌∙◌}
 use mathlib.Core.Bool.{Bool, true, false, not, ◌&&◌, true≢false}
 use lib.Dec.{T, ltb, leb}
 use lib.Ieee.{lt, le}
