@@ -2,7 +2,9 @@
 ghost use Rattle.std.specs.Prelude.{◌≡◌};
 ghost use Rattle.cases.specs.Count.{more, judged, refused};
 
-use libc::STDOUT_FILENO;
+use pipe::write_all;
+use std::io::Write;
+use text::{put_decimal, put_hex};
 
 // So many lines that differ, and so many that are no cases, are told of one by one.
 const TOLD: u64 = 10;
@@ -26,7 +28,7 @@ pub fn none() -> Tally {
 }
 
 // One more line, a case whose answer is `got`, where the list has `want`.
-pub fn judge(t: Tally, got: u64, want: u64) -> Tally
+pub fn judge<W: Write>(output: &mut W, t: Tally, got: u64, want: u64) -> Tally
     ensures { result ≡ judged t got want }
 {
     let lines = one_more(t.lines);
@@ -40,7 +42,7 @@ pub fn judge(t: Tally, got: u64, want: u64) -> Tally
         };
     }
     if t.differ < TOLD {
-        tell_both(lines, got, want);
+        tell_both(output, lines, got, want);
     }
     Tally {
         lines,
@@ -51,12 +53,12 @@ pub fn judge(t: Tally, got: u64, want: u64) -> Tally
 }
 
 // One more line, which is no case.
-pub fn refuse(t: Tally) -> Tally
+pub fn refuse<W: Write>(output: &mut W, t: Tally) -> Tally
     ensures { result ≡ refused t }
 {
     let lines = one_more(t.lines);
     if t.refused < TOLD {
-        tell(b"line ", lines, b": no case\n");
+        tell(output, b"line ", lines, b": no case\n");
     }
     Tally {
         lines,
@@ -68,34 +70,46 @@ pub fn refuse(t: Tally) -> Tally
 
 // The last word of a program, with what is left of the list after its last whole line. Where nothing
 // was compared it does not say that nothing differs.
-pub fn verdict(program: &[u8], t: Tally, left: usize) {
+pub fn verdict<W: Write>(output: &mut W, program: &[u8], t: Tally, left: usize) {
     if 0 < t.refused {
-        tell(b"malformed lines: ", t.refused, b"\n");
+        tell(output, b"malformed lines: ", t.refused, b"\n");
     }
     if 0 < left {
-        io::write_all(STDOUT_FILENO, b"cut short: the last line is not whole\n");
+        write_all(output, b"cut short: the last line is not whole\n");
     }
-    io::write_all(STDOUT_FILENO, program);
+    write_all(output, program);
     if t.cases == 0 {
-        io::write_all(STDOUT_FILENO, b": no cases\n");
+        write_all(output, b": no cases\n");
         return;
     }
-    tell(b": ", t.cases, b" cases, ");
-    tell(b"", t.differ, b" differ\n");
+    tell(output, b": ", t.cases, b" cases, ");
+    tell(output, b"", t.differ, b" differ\n");
 }
 
-fn tell_both(line: u64, got: u64, want: u64) {
-    tell(b"line ", line, b": got ");
-    io::print_hex(STDOUT_FILENO, got, 16);
-    io::write_all(STDOUT_FILENO, b", the list has ");
-    io::print_hex(STDOUT_FILENO, want, 16);
-    io::write_all(STDOUT_FILENO, b"\n");
+fn tell_both<W: Write>(output: &mut W, line: u64, got: u64, want: u64) {
+    tell(output, b"line ", line, b": got ");
+    tell_hex(output, got);
+    write_all(output, b", the list has ");
+    tell_hex(output, want);
+    write_all(output, b"\n");
 }
 
-fn tell(before: &[u8], n: u64, after: &[u8]) {
-    io::write_all(STDOUT_FILENO, before);
-    io::print_decimal(STDOUT_FILENO, n);
-    io::write_all(STDOUT_FILENO, after);
+fn tell<W: Write>(output: &mut W, before: &[u8], n: u64, after: &[u8]) {
+    write_all(output, before);
+    tell_decimal(output, n);
+    write_all(output, after);
+}
+
+fn tell_decimal<W: Write>(output: &mut W, n: u64) {
+    let mut digits = [0u8; 20];
+    let end = put_decimal(n, 0, &mut digits);
+    write_all(output, &digits[..end]);
+}
+
+fn tell_hex<W: Write>(output: &mut W, n: u64) {
+    let mut digits = [0u8; 16];
+    put_hex(n, 0, &mut digits);
+    write_all(output, &digits);
 }
 
 // A count that stays where it is at the top, which no list reaches, so that no caller has to show a bound.

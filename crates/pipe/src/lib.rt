@@ -23,6 +23,24 @@ pub fn write_all<W: Write>(output: &mut W, bytes: &[u8]) -> bool
     output.write_all(bytes).is_ok()
 }
 
+// Reads until the block is full, the input ends or a read fails, and tells how many bytes the block then holds.
+pub fn read_full<R: Read>(input: &mut R, block: &mut [u8]) -> usize
+    ensures in_bounds { result ≤ length block.new }
+    ensures bytes { Consumes (R.remaining input.old) (R.remaining input.new) (take result block.new) }
+{
+    let mut held = 0usize;
+    while held < block.len() {
+        let Some(more) = read_some(input, &mut block[held..]) else {
+            return held;
+        };
+        if more == 0 {
+            return held;
+        }
+        held += more;
+    }
+    held
+}
+
 // Reads until the block is full, the input ends or a read fails, which is said: a read of a pipe may give a part only. How many bytes the
 // block then holds.
 pub fn fill<R: Read, W: Write>(
