@@ -3,7 +3,7 @@
 #     make            build/libaspeyruni.a, build/libaspeyruni.so.VERSION and build/aspeyruni.pc; proves first, which takes minutes once
 #     make install    header, libraries, aspeyruni.pc and licence, to PREFIX (/usr/local unless given) below DESTDIR; make uninstall
 #     make check      installs to build/stage, builds the examples over that by pkg-config, and holds what they write against the program's
-#     make clean      removes build/; what is proved stays in target/
+#     make clean      removes build/; what is proved stays in crates/*/out/
 #
 # MACHINE is the processor that the library is for, as `uname -m` names it. For another than this one give CC a compiler for it, and RUN what
 # runs its programs: make check MACHINE=aarch64 CC=aarch64-linux-gnu-gcc RUN='qemu-aarch64 -L /usr/aarch64-linux-gnu'

@@ -4,10 +4,11 @@
 //! det_sin and det_cos are cut from the Rust text when this is built; no copy of them is kept here. From the repository's root,
 //! with that text in ../shared:
 //!
+//!     mkdir -p build
 //!     sed -n -e '/^use std::f64::consts::PI;/p' -e '/^const /p' -e '/^fn det_sin/,/^}/p' -e '/^fn det_cos/,/^}/p' \
-//!         ../shared/src--src--fft.rs.txt >target/trig_cut.rs
-//!     TRIG_CUT=../target/trig_cut.rs rustc --edition 2021 -O -o target/trig_table oracle/trig_table.rs
-//!     target/trig_table | diff - <(sed -n '/^const RECOMBINATION/,/^];/p' crates/trig/src/tables.rt)
+//!         ../shared/src--src--fft.rs.txt >build/trig_cut.rs
+//!     TRIG_CUT=../build/trig_cut.rs rustc --edition 2021 -O -o build/trig_table oracle/trig_table.rs
+//!     build/trig_table | diff - <(sed -n '/^const RECOMBINATION/,/^];/p' crates/trig/src/tables.rt)
 
 include!(env!("TRIG_CUT"));
 
