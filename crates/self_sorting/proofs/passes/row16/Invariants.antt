@@ -1,0 +1,12 @@
+use mathlib.Core.Path.{◌≡◌}
+use Prim.Native.Nat.{◌+◌, ◌*◌, ◌-◌, ◌≤◌}
+use lib.ListN.{length}
+use Rattle.laws.specs.Loops.{iter}
+use Rattle.self_sorting.specs.Quads.{four_of, put_four, two_stages}
+use Rattle.self_sorting.proofs.passes.row16.Given as goal
+
+abbrev pub invariant-loop-q : goal.invariant-loop-q
+invariant-loop-q l = (length l.z ≡ 1024) × (l.q ≤ 16) × (l.z ≡ iter (λ k m. put_four m (16 * l.j + k) (two_stages (four_of m (64 * l.j + 512 + k) 16) l.w)) l.initial.z l.q)
+
+abbrev pub decreases-loop-q : goal.decreases-loop-q
+decreases-loop-q l = 16 - l.q
