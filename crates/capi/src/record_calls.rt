@@ -15,8 +15,7 @@ pub struct RecordRead {
     pub payload_len: usize,
 }
 
-#[unsafe(no_mangle)]
-pub extern "C" fn aspeyruni_record_read(bytes: &[u8]) -> RecordRead
+pub fn aspeyruni_record_read(bytes: &[u8]) -> RecordRead
     ensures { promises.RecordRead bytes.now result }
 {
     let found = record::read(bytes);
@@ -38,8 +37,7 @@ pub extern "C" fn aspeyruni_record_read(bytes: &[u8]) -> RecordRead
     }
 }
 
-#[unsafe(no_mangle)]
-pub extern "C" fn aspeyruni_record_write(kind: u32, payload: &[u8], out: &mut [u8]) -> Written
+pub fn aspeyruni_record_write(kind: u32, payload: &[u8], out: &mut [u8]) -> Written
     ensures { Write kind payload.now out.old result out.new }
 {
     record::write(kind, payload, out)

@@ -50,8 +50,7 @@ fn numbers_of(a: Unreported) -> TauAnswer
     }
 }
 
-#[unsafe(no_mangle)]
-pub extern "C" fn aspeyruni_tau_create(
+pub fn aspeyruni_tau_create(
     partitions: usize,
     suppress: bool,
     shadow: &mut [f64],
@@ -64,8 +63,7 @@ pub extern "C" fn aspeyruni_tau_create(
     tau::create(partitions, suppress, shadow, output, spectra, powers)
 }
 
-#[unsafe(no_mangle)]
-pub extern "C" fn aspeyruni_tau_process(
+pub fn aspeyruni_tau_process(
     s: TauCanceller,
     shadow: &mut [f64],
     output: &mut [f64],
@@ -80,8 +78,7 @@ pub extern "C" fn aspeyruni_tau_process(
     numbers_of(tau::process_unreported(s, shadow, output, spectra, powers, near, far, out))
 }
 
-#[unsafe(no_mangle)]
-pub extern "C" fn aspeyruni_tau_flush(
+pub fn aspeyruni_tau_flush(
     s: TauCanceller,
     shadow: &mut [f64],
     output: &mut [f64],
@@ -94,8 +91,7 @@ pub extern "C" fn aspeyruni_tau_flush(
     numbers_of(tau::flush_unreported(s, shadow, output, spectra, powers, out))
 }
 
-#[unsafe(no_mangle)]
-pub extern "C" fn aspeyruni_tau_reset(
+pub fn aspeyruni_tau_reset(
     s: TauCanceller,
     shadow: &mut [f64],
     output: &mut [f64],
