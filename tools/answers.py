@@ -83,6 +83,40 @@ class Turner:
                 at = end
         return out
 
+    @staticmethod
+    def align(args, needs, named):
+        """The answers without those of goals that are no more, each of which was `search rules`. An answer to a call's requires has a κs."""
+        def at_call(arg):
+            text = named[arg] if arg in named else arg
+            return " κs" in text.split("=" if arg in named else ".")[0] or bool(re.match(r"λ \S+ κs", text)) or (arg in named and bool(re.search(r"^" + re.escape(arg) + r" \S+ κs", text, re.M)))
+
+        def is_idle(arg):
+            return bool(re.fullmatch(r"λ \S+?(?: κs)?\.\s*(search rules|omega arith|refl)", arg.strip()))
+
+        n, m, far = len(args), len(needs), 10 ** 6
+        cost = [[far] * (m + 1) for _ in range(n + 1)]
+        step = [[None] * (m + 1) for _ in range(n + 1)]
+        cost[n][m] = 0
+        for i in range(n - 1, -1, -1):
+            for j in range(m, -1, -1):
+                best = (far, None)
+                if j < m:
+                    odd = at_call(args[i]) != bool(re.search(r"requires(-\d+)?$", needs[j][0]))
+                    best = (cost[i + 1][j + 1] + (5 if odd else 0), "take")
+                skip = cost[i + 1][j] + (0.5 if is_idle(args[i]) else 100)
+                if skip < best[0]:
+                    best = (skip, "skip")
+                cost[i][j], step[i][j] = best
+        if cost[0][0] >= 100:
+            return None
+        out, i, j = [], 0, 0
+        while i < n:
+            if step[i][j] == "take":
+                out.append(args[i])
+                j += 1
+            i += 1
+        return out
+
     def follow(self, place, path):
         while path and path[0] == "before" and place:
             place, path = self.places[place][1], path[1:]
@@ -110,7 +144,18 @@ class Turner:
         clauses = self.names["clauses"][self.index[at]]
         if clauses and clauses.get("fields") and rest[:1] == ["ensures"]:
             rest = ["ensures"] + self.labelled(clauses["fields"], rest[1:])
+        params = self.names["params"].get(self.places[at][3])
+        if params and rest[:1] == ["new"] and rest[1:] and rest[1] in "01":
+            rest = ["new"] + self.place_in(params, rest[1:])
         return ["c", self.places[at][2][1]] + rest
+
+    @staticmethod
+    def place_in(params, rest):
+        """A parameter by its place in a row of pairs that ends in a unit."""
+        at = 0
+        while rest[at:at + 1] == ["1"]:
+            at += 1
+        return [params[at]] + rest[at + 1:] if rest[at:at + 1] == ["0"] and at < len(params) else rest
 
     @staticmethod
     def labelled(fields, rest):
@@ -125,7 +170,7 @@ class Turner:
 
         def chain(m):
             name, path = m[1], [p for p in m[2].split(".") if p]
-            if name not in env:
+            if name not in env or (not path and re.match(r"\s+=\s", m.string[m.end():])):
                 return m[0]
             kind, value = env[name]
             if name == "at" and not path:
@@ -238,7 +283,11 @@ class Turner:
         args = [a for a in args if not re.fullmatch(r"(invariant|decreases)-\S+", a)]
         needs = self.names["needs"]
         if len(args) != len(needs):
-            self.say(f"{len(args)} answers and {len(needs)} goals: {[n[1] for n in needs]}")
+            aligned = self.align(args, needs, named)
+            if aligned is None:
+                self.say(f"{len(args)} answers and {len(needs)} goals: {[n[1] for n in needs]}")
+            else:
+                args = aligned
         answers = []
         for i, (arg, (was, new)) in enumerate(zip(args, needs)):
             place = self.names["asked_at"][i][0]
@@ -270,8 +319,33 @@ class Turner:
             term = re.sub(r"\((c\.if-[^\s()]+)\)", r"\1", term)
             term = self.record(term, own if new.startswith("returns") else self.names["asked"].get(was))
             answers.append("\n".join([f"pub {new} : goal.{new}"] + ([open_] if open_ else []) + [f"{new} c{more} = {term}"]))
-        self.write(comments, uses, module, invariants, helpers, answers)
+        self.write(comments, uses, module, invariants, *self.shared(helpers, invariants), answers)
         return True
+
+    @staticmethod
+    def shared(helpers, invariants):
+        """The helpers that the invariants use, made public, and the others."""
+        def name_of(decl):
+            m = re.search(r"^(?:pub |abbrev |unfoldable )*(?:record |data )?(" + IDENT + r")", "\n".join(l for l in decl.split("\n") if not l.startswith("--")))
+            return m[1] if m else None
+
+        def uses(text, name):
+            return bool(re.search(r"(?<![A-Za-z0-9_'.-])" + re.escape(name) + r"(?![A-Za-z0-9_'-])", text))
+
+        mine, text = [], "\n".join(invariants)
+        for decl in reversed(helpers):
+            name = name_of(decl)
+            if name and name not in ("module",) and uses(text, name):
+                mine.insert(0, decl)
+                text += decl
+        public = []
+        for decl in mine:
+            lines = decl.split("\n")
+            i = next(k for k, l in enumerate(lines) if not l.startswith("--"))
+            if not re.match(r"(abbrev )?pub ", lines[i]):
+                lines[i] = re.sub(r"^(abbrev )?", r"\1pub ", lines[i], count=1)
+            public.append("\n".join(lines))
+        return public, [name_of(d) for d in mine], [d for d in helpers if d not in mine]
 
     @classmethod
     def record(cls, term, labels):
@@ -304,10 +378,14 @@ class Turner:
             return [m[1] + p for p in [parts[0]] + more] if more else None
         return [m[1] + p for p in parts] if len(parts) == n else None
 
-    def write(self, comments, uses, module, invariants, helpers, answers):
+    def write(self, comments, uses, module, invariants, shared, names, helpers, answers):
+        if names:
+            invariants = shared + invariants
         for name, kind, decls in (("Invariants", "Given", invariants), ("Answers", "Goals", helpers + answers)):
             if not decls or (name == "Answers" and not answers):
                 continue
+            if names and name == "Answers":
+                uses = uses + [f"use {module}.Invariants.{{{', '.join(names)}}}"]
             with open(os.path.join(self.folder, name + ".antt"), "w", encoding="utf-8") as f:
                 f.write("\n".join((comments if name == "Answers" or not answers else []) + uses + [f"use {module}.{kind} as goal", ""]) + "\n" + "\n\n".join(decls) + "\n")
 

@@ -1,13 +1,8 @@
 -- `reasons::tally::put_summary` meets its contract: after n turns the rows of the numbers 1 to n stand behind the heading. Assumes nothing.
 use Rattle.std.proofs.Common.{◌≡◌, ℕ, suc, ◌+◌, ◌-◌, ◌*◌, ◌≤◌, List, length, get_or, take, sym, refl, subst, le_antisymm, add-one, rules}
 use Rattle.reasons.specs.Tally.{Heading, Row, Rows, Summary}
-use Rattle.reasons.proofs.tally.put_summary.Statement.{statement}
-use Rattle.reasons.proofs.tally.put_summary.Tie as tie
-
-pub record Going (blocks : ℕ) (counts : List ℕ) (n : ℕ) (t : List ℕ) : Type 0 where
-  pub heading : List ℕ
-  pub is-heading : Heading blocks heading
-  pub is-rows : Rows counts n heading t
+use Rattle.reasons.proofs.tally.put_summary.Invariants.{Going}
+use Rattle.reasons.proofs.tally.put_summary.Goals as goal
 
 begun : {blocks : ℕ} (counts : List ℕ) {t : List ℕ} → Heading blocks t → Going blocks counts 0 t
 unfolding Rows
@@ -27,26 +22,14 @@ done {counts = counts} {t = t} g l m = record {
   is-summary = subst (λ (k : ℕ). Rows counts k g.heading t) (le_antisymm l m) g.is-rows;
 }
 
-abbrev invariant-loop : tie.invariant-loop
-invariant-loop blocks counts out₀ end₀ number₀ out end number =
-    (length out ≡ length out₀) × ((number ≤ 10) × (end ≤ 29 + 48 * number)) × Going blocks counts number (take end out)
+pub loop-number-init : goal.loop-number-init
+loop-number-init c = (refl, search rules, begun c.args.counts.now c.put_heading-end.ensures.heading)
 
-abbrev decreases-loop : tie.decreases-loop
-decreases-loop blocks counts out₀ end₀ number₀ out end number =
-    10 - number
+pub loop-number-preserved : goal.loop-number-preserved
+loop-number-preserved c = (search rules, search rules, next c.loop-number.number c.loop-number.invariant.2 c.put_row-end.ensures.row)
 
-pub put-summary-spec : {M : Type 1} → statement M
-put-summary-spec =
-    tie.close
-    (tie.spec invariant-loop decreases-loop
-    (λ c κs. search rules)
-    (λ c. (refl, search rules, begun c.before.before.before.before.before.before.args.counts.now c.before.before.put-heading.ensures.1))
-    (λ c. search rules)
-    (λ c. search rules)
-    (λ c. search rules)
-    (λ c. search rules)
-    (λ c κs. search rules)
-    (λ c. search rules)
-    (λ c. (search rules, search rules, next c.before.before.before.before.before.before.loop.number c.before.before.before.before.before.before.loop.invariant.2 c.before.before.put-row.ensures.1))
-    (λ c. search rules)
-    (λ c. (search rules, done c.before.loop.invariant.2 (search rules) (search rules))))
+pub returns : goal.returns
+returns c = record {
+  upper_bound = search rules;
+  summary = done c.loop-number.invariant.2 (search rules) (search rules);
+}

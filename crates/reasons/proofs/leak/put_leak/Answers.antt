@@ -1,13 +1,12 @@
 -- `reasons::leak::put_leak` meets its contract. Assumes nothing.
+-- m is how many millionths the leak has, w the text up to its whole part and p up to the point
 use Rattle.std.proofs.Common.{◌≡◌, ℕ, ◌/◌, ◌%◌, List, [], ◌∷◌, ◌++◌, sym, refl, ap, ◌∙◌, subst, append_assoc, append-nil, rules, eq-eqb, ne_eqb}
 use lib.Ieee.{Float}
 use Rattle.laws.specs.Choice.{pick_yes, pick_no}
 use Rattle.text.specs.Text.{Appended}
 use Rattle.reasons.specs.Leak.{millionths_of, places_of, behind_of, Leak}
-use Rattle.reasons.proofs.leak.put_leak.Statement.{statement}
-use Rattle.reasons.proofs.leak.put_leak.Tie as tie
+use Rattle.reasons.proofs.leak.put_leak.Goals as goal
 
--- m is how many millionths the leak has, w the text up to its whole part and p up to the point
 whole : (leak : Float) (m : ℕ) {s t : List ℕ} → m ≡ millionths_of leak → m % 1000000 ≡ 0 → Appended (m / 1000000) s t → Leak leak s t
 whole leak m {s} {t} e z h =
     let none : [] ≡ behind_of (m % 1000000) = pick_yes _ _ _ (eq-eqb (m % 1000000) 0 z) refl in
@@ -30,25 +29,15 @@ broken leak m w {s} {p} {t} e z h dot all =
       is-leak = subst (λ (n : ℕ). t ≡ w ++ behind_of (n % 1000000)) e is;
     }
 
-pub put-leak-spec : {M : Type 1} → statement M
-put-leak-spec =
-    tie.close
-    (tie.spec
-    (λ c κs. search rules)
-    (λ c κs. search rules)
-    (λ c. search rules)
-    (λ c. let at-whole = c.before.before.before in
-    let counted = at-whole.before.before in
-    (search rules, whole counted.before.before.args.leak counted.millionths.result counted.millionths.ensures (search rules) at-whole.put-decimal.ensures.1))
-    (λ c. search rules)
-    (λ c κs. search rules)
-    (λ c κs. search rules)
-    (λ c. search rules)
-    (λ c. let at-point = c.before.before.before.before.before.before in
-    let left = at-point.before.before.before in
-    let at-whole = left.before.before.before in
-    let counted = at-whole.before.before in (
-      search rules,
-      broken counted.before.before.args.leak counted.millionths.result _ counted.millionths.ensures left.if1.false at-whole.put-decimal.ensures.1
-          at-point.put.ensures.1 c.before.before.put-places.ensures.1,
-    )))
+pub returns-then-behind-eq0 : goal.returns-then-behind-eq0
+returns-then-behind-eq0 c = record {
+  upper_bound = search rules;
+  leak = whole c.args.leak c.millionths-count.result c.millionths-count.ensures (search rules) c.put_decimal-whole.ensures.appended;
+}
+
+pub returns : goal.returns
+returns c = record {
+  upper_bound = search rules;
+  leak = broken c.args.leak c.millionths-count.result _ c.millionths-count.ensures c.if-behind-eq0.false c.put_decimal-whole.ensures.appended
+      c.put-point.ensures.out_after c.put_places.ensures.line_after;
+}

@@ -2,8 +2,7 @@
 use Rattle.std.proofs.Common.{◌≡◌, ℕ, zero, suc, ◌+◌, ◌-◌, ◌*◌, ◌/◌, ◌%◌, ◌<◌, ◌≤◌, List, [], ◌∷◌, ◌++◌, length, take, set, sym, refl, ap, ◌∙◌, append_assoc, append-nil, add-one, arith, length-set, take-suc-set, rules, eq-eqb, ne_eqb}
 use Rattle.laws.specs.Choice.{pick_yes, pick_no}
 use Rattle.reasons.specs.Leak.{places_of}
-use Rattle.reasons.proofs.leak.put_places.Statement.{statement}
-use Rattle.reasons.proofs.leak.put_places.Tie as tie
+use Rattle.reasons.proofs.leak.put_places.Goals as goal
 
 next : (n rest : ℕ) → 0 < n → 0 < rest → ((48 + rest / 100000) ∷ places_of (n - 1) (rest % 100000 * 10)) ≡ places_of n rest
 unfolding places_of
@@ -36,29 +35,17 @@ placed line end n rest h k l =
 ended : (line : List ℕ) (end n rest : ℕ) {all : List ℕ} → [] ≡ places_of n rest → take end line ++ places_of n rest ≡ all → take end line ≡ all
 ended line end n rest e h = sym (append-nil (take end line)) ∙ ap (λ (s : List ℕ). take end line ++ s) e ∙ h
 
-abbrev invariant-loop : tie.invariant-loop
-invariant-loop behind at line₀ end₀ rest₀ places₀ line end rest places =
-    (length line ≡ length line₀) × ((rest < 1000000) × (end + places ≡ at + 6)) × (take end line ++ places_of places rest ≡ take at line₀ ++ places_of 6 behind)
+pub loop-places-preserved : goal.loop-places-preserved
+loop-places-preserved c = (simp length-set c.loop-places.invariant.0, search rules, placed c.loop-places.line c.loop-places.end c.loop-places.places c.loop-places.rest (search rules) (search rules) (search rules) ∙ c.loop-places.invariant.2)
 
-abbrev decreases-loop : tie.decreases-loop
-decreases-loop behind at line₀ end₀ rest₀ places₀ line end rest places =
-    places
+pub returns-else-rest-gt0 : goal.returns-else-rest-gt0
+returns-else-rest-gt0 c = record {
+  upper_bound = search rules;
+  line_after = ended c.loop-places.line c.loop-places.end c.loop-places.places c.loop-places.rest (none c.loop-places.places c.loop-places.rest (search rules)) c.loop-places.invariant.2;
+}
 
-pub put-places-spec : {M : Type 1} → statement M
-put-places-spec =
-    tie.close
-    (tie.spec invariant-loop decreases-loop
-    (λ c. search rules)
-    (λ c. search rules)
-    (λ c. search rules)
-    (λ c. search rules)
-    (λ c. search rules)
-    (λ c. search rules)
-    (λ c. search rules)
-    (λ c. search rules)
-    (λ c. let at = c.before.before.loop in
-    (simp length-set at.invariant.0, search rules, placed at.line at.end at.places at.rest (search rules) (search rules) (search rules) ∙ at.invariant.2))
-    (λ c. search rules)
-    (λ c. let at = c.before.before.loop in (search rules, ended at.line at.end at.places at.rest (none at.places at.rest (search rules)) at.invariant.2))
-    (λ c. search rules)
-    (λ c. let at = c.before.loop in (search rules, ended at.line at.end at.places at.rest (no_place at.places at.rest (search rules)) at.invariant.2)))
+pub returns-after-loop-places : goal.returns-after-loop-places
+returns-after-loop-places c = record {
+  upper_bound = search rules;
+  line_after = ended c.loop-places.line c.loop-places.end c.loop-places.places c.loop-places.rest (no_place c.loop-places.places c.loop-places.rest (search rules)) c.loop-places.invariant.2;
+}

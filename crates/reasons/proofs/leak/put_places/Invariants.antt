@@ -1,0 +1,10 @@
+use Rattle.std.proofs.Common.{◌≡◌, ℕ, zero, suc, ◌+◌, ◌-◌, ◌*◌, ◌/◌, ◌%◌, ◌<◌, ◌≤◌, List, [], ◌∷◌, ◌++◌, length, take, set, sym, refl, ap, ◌∙◌, append_assoc, append-nil, add-one, arith, length-set, take-suc-set, rules, eq-eqb, ne_eqb}
+use Rattle.laws.specs.Choice.{pick_yes, pick_no}
+use Rattle.reasons.specs.Leak.{places_of}
+use Rattle.reasons.proofs.leak.put_places.Given as goal
+
+abbrev pub invariant-loop-places : goal.invariant-loop-places
+invariant-loop-places l = (length l.line ≡ length l.initial.line) × ((l.rest < 1000000) × (l.end + l.places ≡ l.at + 6)) × (take l.end l.line ++ places_of l.places l.rest ≡ take l.at l.initial.line ++ places_of 6 l.behind)
+
+abbrev pub decreases-loop-places : goal.decreases-loop-places
+decreases-loop-places l = l.places
