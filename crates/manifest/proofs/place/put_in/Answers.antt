@@ -9,9 +9,7 @@ use lib.Seq.{get_or-drop}
 use Rattle.laws.specs.Loops.{over_at, over_at-none, over_at-next, over_at-end, over_at-ahead}
 use Rattle.laws.specs.Readings.{over_at-copied}
 use Rattle.manifest.specs.Steps.{put_in_of}
-use borrow.Author.Rules.{rules}
-use Rattle.manifest.proofs.place.put_in.Statement.{statement}
-use Rattle.manifest.proofs.place.put_in.Tie as tie
+use Rattle.manifest.proofs.place.put_in.Goals as goal
 
 module _ (line place : ℕ) (before : List ℕ) (k : ℕ) {x : List ℕ} (e : x ≡ over_at place k (λ j y. get_or (line ∷ drop place before) j 0) before) where
   next : get_or x (place + k) 0 ≡ get_or (line ∷ drop place before) (k + 1) 0
@@ -30,38 +28,24 @@ module _ (line place : ℕ) (before : List ℕ) (k : ℕ) {x : List ℕ} (e : x 
       ∙ over_at-copied 0 place (count - place + 1) (line ∷ drop place before) before (omega arith) (omega arith)
       ∙ (rw (q, add-one (count - place)) refl)
 
-abbrev invariant-loop : tie.invariant-loop
-invariant-loop line place count order₀ moves waiting₀ k₀ order waiting k =
-    (length order ≡ length order₀) × (k ≤ count - place + 1) × (waiting ≡ get_or (line ∷ drop place order₀) k 0)
-    × (order ≡ over_at place k (λ j x. get_or (line ∷ drop place order₀) j 0) order₀)
+pub loop-k-init : goal.loop-k-init
+loop-k-init c = (refl, omega arith, refl, over_at-none _ _ _)
 
-abbrev decreases-loop : tie.decreases-loop
-decreases-loop line place count order₀ moves waiting₀ k₀ order waiting k = count - place + 1 - k
+pub offset_bounds-order-at : goal.offset_bounds-order-at
+offset_bounds-order-at c = omega arith
 
-pub put-in-spec : {M : Type 1} → statement M
-put-in-spec =
-    tie.close
-    (tie.spec invariant-loop decreases-loop
-    (λ c. search rules)
-    (λ c. search rules)
-    (λ c. (refl, omega arith, refl, over_at-none _ _ _))
-    (λ c. search rules)
-    (λ c. omega arith)
-    (λ c. search rules)
-    (λ c. omega arith)
-    (λ c. search rules)
-    (λ c. search rules)
-    (λ c. search rules)
-    (λ c. let at = c.before.before.loop in
-    let s = c.before.before.before.args in (
-      simp length-set at.invariant.0,
-      omega arith,
-      next s.line s.place s.order.now at.k at.invariant.3,
-      turn s.line s.place s.order.now
-          at.k at.invariant.3 at.waiting at.invariant.2,
-    ))
-    (λ c. search rules)
-    (λ c. let at = c.before.loop in
-    let s = c.before.before.args in
-    end s.line s.place s.order.now at.k at.invariant.3 s.count c.before.before.requires.0 c.before.before.requires.1 (omega arith)
-    (omega arith)))
+pub offset_bounds-order-at-in-loop-k : goal.offset_bounds-order-at-in-loop-k
+offset_bounds-order-at-in-loop-k c = omega arith
+
+pub loop-k-preserved : goal.loop-k-preserved
+loop-k-preserved c = (
+  simp length-set c.loop-k.invariant.0,
+  omega arith,
+  next c.args.line c.args.place c.args.order.now c.loop-k.k c.loop-k.invariant.3,
+  turn c.args.line c.args.place c.args.order.now
+      c.loop-k.k c.loop-k.invariant.3 c.loop-k.waiting c.loop-k.invariant.2,
+)
+
+pub returns : goal.returns
+returns c = end c.args.line c.args.place c.args.order.now c.loop-k.k c.loop-k.invariant.3 c.args.count c.requires.place_le_count c.requires.count_in_bounds (omega arith)
+    (omega arith)

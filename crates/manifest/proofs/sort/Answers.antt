@@ -9,9 +9,7 @@ use Rattle.laws.specs.Choice.{pick_yes, pick_no}
 use Rattle.manifest.specs.Lines.{lines_of}
 use Rattle.manifest.specs.Sorted.{sorted_of, refused_of, answer_of}
 use Rattle.manifest.proofs.Places.{none_yet}
-use borrow.Author.Rules.{rules}
-use Rattle.manifest.proofs.sort.Statement.{statement}
-use Rattle.manifest.proofs.sort.Tie as tie
+use Rattle.manifest.proofs.sort.Goals as goal
 
 module _ (text out : List ℕ) {r w : ℕ} where
   too_long : r ≡ 1 → w ≡ 0 → 65536 < length text → record { refusal = r; written = w; out = out } ≡ answer_of text out
@@ -37,24 +35,27 @@ sorted text out e h k l =
     pick_no _ _ _ (le-ltb 65536 (length text) h)
     (pick_no _ _ _ (le-ltb 4096 (length (lines_of text)) k) (pick_no _ _ _ (le-ltb (length out) (length text) l) (cc)))
 
-pub sort-spec : {M : Type 1} → statement M
-sort-spec =
-    tie.close
-    (tie.spec
-    (λ c κs. search rules)
-    (λ c. let s = c.before.before.before.before.args in
-    too_long s.text.now s.out.now c.refused.ensures.0 c.refused.ensures.1 (omega arith))
-    (λ c κs. search rules)
-    (λ c κs. search rules)
-    (λ c. let s = c.before.before.before.before.before.before.args in
-    too_many s.text.now s.out.now c.refused2.ensures.0 c.refused2.ensures.1 (omega arith) (omega arith))
-    (λ c κs. search rules)
-    (λ c. let s = c.before.before.before.before.before.before.before.args in
-    no_room s.text.now s.out.now c.refused3.ensures.0 c.refused3.ensures.1 (omega arith) (omega arith) (omega arith))
-    (λ c. search rules)
-    (λ c κs. (omega arith, none_yet c.before.before.before.before.before.before.before.args.text.now 4096))
-    (λ c. search rules)
-    (λ c κs. let o = c.before.before.before.order-lines.ensures in (o.0, (o.1, omega arith)))
-    (λ c. search rules)
-    (λ c. let s = c.before.before.before.before.before.before.before.before.before.before.before.before.before.before.args in
-    sorted s.text.now s.out.now c.before.before.write-lines.ensures (omega arith) (omega arith) (omega arith)))
+pub returns-then-text-gt-MOST_BYTES : goal.returns-then-text-gt-MOST_BYTES
+returns-then-text-gt-MOST_BYTES c = too_long c.args.text.now c.args.out.now c.refused.ensures.refusal_value c.refused.ensures.written_value (omega arith)
+
+pub returns-then-count_lines-gt-MOST_LINES : goal.returns-then-count_lines-gt-MOST_LINES
+returns-then-count_lines-gt-MOST_LINES c = too_many c.args.text.now c.args.out.now c.refused-then-count_lines-gt-MOST_LINES.ensures.refusal_value c.refused-then-count_lines-gt-MOST_LINES.ensures.written_value (omega arith) (omega arith)
+
+pub returns-then-out-text : goal.returns-then-out-text
+returns-then-out-text c = no_room c.args.text.now c.args.out.now c.refused-then-out-text.ensures.refusal_value c.refused-then-out-text.ensures.written_value (omega arith) (omega arith) (omega arith)
+
+pub order_lines-count-requires : goal.order_lines-count-requires
+order_lines-count-requires c = record {
+  text_in_bounds = omega arith;
+  sorts = none_yet c.args.text.now 4096;
+}
+
+pub write_lines-requires : goal.write_lines-requires
+write_lines-requires c = record {
+  count_value = c.order_lines-count.ensures.value;
+  sorts = c.order_lines-count.ensures.sorts_2;
+  text_in_bounds = omega arith;
+}
+
+pub returns : goal.returns
+returns c = sorted c.args.text.now c.args.out.now c.write_lines.ensures (omega arith) (omega arith) (omega arith)

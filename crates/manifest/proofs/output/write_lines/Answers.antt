@@ -1,5 +1,6 @@
 -- `manifest::output::write_lines` meets its contract: after k lines the buffer begins with the first bytes of the sorted text, and what
 -- is left of that are the other lines. Assumes nothing.
+-- a buffer that begins with the first bytes of a text, and the text's next piece put behind them
 use mathlib.Core.Path.{◌≡◌, refl, sym, ap, ◌∙◌}
 use mathlib.Core.List.{List, [], ◌∷◌, ◌++◌, append_assoc}
 use Prim.Native.Nat.{ℕ, ◌+◌, ◌-◌, ◌<◌, ◌≤◌}
@@ -15,11 +16,8 @@ use Rattle.manifest.specs.Sorted.{sorted_of}
 use Rattle.manifest.specs.Steps.{line_from, piece_of, pasted_of, Sorts}
 use Rattle.manifest.proofs.Lines.{sort-length, length-sorted, joined-piece, joined-fits, joined-none}
 use Rattle.manifest.proofs.Places.{named-line}
-use borrow.Author.Rules.{rules}
-use Rattle.manifest.proofs.output.write_lines.Statement.{statement}
-use Rattle.manifest.proofs.output.write_lines.Tie as tie
+use Rattle.manifest.proofs.output.write_lines.Goals as goal
 
--- a buffer that begins with the first bytes of a text, and the text's next piece put behind them
 module _ (whole before : List ℕ) (at : ℕ) (w rest : List ℕ) (within : at ≤ length whole) (e : drop at whole ≡ w ++ rest) where
   behind : drop (at + length w) whole ≡ rest
   behind = sym (drop-drop (length w) at whole) ∙ ap (drop (length w)) e ∙ drop-append_seam w rest
@@ -91,42 +89,26 @@ module _ (text order : List ℕ) (count : ℕ) (e : count ≡ length (lines_of t
       let q : at ≡ length text = omega arith in
       o ∙ (rw q (ap (λ (z : List ℕ). z ++ drop (length text) before) (take_all (length text) (sorted_of text) (omega arith))))
 
-abbrev invariant-loop : tie.invariant-loop
-invariant-loop text order count out₀ at₀ k₀ out at k =
-    (length out ≡ length out₀) × (k ≤ count) × (at ≤ length text)
-    × (drop at (sorted_of text) ≡ joined_of (ends_in_newline text) (drop k (sort_of at_most (lines_of text))))
-    × (out ≡ take at (sorted_of text) ++ drop at out₀)
-
-abbrev decreases-loop : tie.decreases-loop
-decreases-loop text order count out₀ at₀ k₀ out at k = count - k
-
-pub write-lines-spec : {M : Type 1} → statement M
+pub loop-k-init : goal.loop-k-init
 unfolding sorted_of
-write-lines-spec =
-    tie.close
-    (tie.spec invariant-loop decreases-loop
-    (λ c. (refl, omega arith, omega arith, refl, refl))
-    (λ c. search rules)
-    (λ c. search rules)
-    (λ c κs. let s = c.before.before.before.before.before.before.before in
-    let at = c.before.before.before.loop in (
-      all-get at.k 0 s.requires.1.0.starts (omega (arith, s.requires.1.0.room)),
-      (
-        fits s.args.text.now s.args.order.now s.args.count
-            s.requires.0 s.requires.1.0 at.at at.k at.invariant.2 at.invariant.3 (omega arith),
-        omega (arith, s.requires.1.1),
-      ),
-    ))
-    (λ c. search rules)
-    (λ c. search rules)
-    (λ c. let s = c.before.before.before.before.before.before.before.before.before.before in
-    let at = c.before.before.before.before.before.before.loop in
-    let p = c.before.before.put-line in
-    let n = turn s.args.text.now s.args.order.now s.args.count s.requires.0 s.requires.1.0 at.at at.k at.invariant.2 at.invariant.3
-    (omega arith) s.args.out.now p.result at.invariant.4 p.ensures.0 p.ensures.1 in
-    (p.auto.1.1.1.0 ∙ at.invariant.0, omega arith, n.0, n.1, n.2))
-    (λ c. search rules)
-    (λ c. let s = c.before.before.before.before.before in
-    let at = c.before.loop in
-    end s.args.text.now s.args.order.now s.args.count s.requires.0 s.requires.1.0 at.at at.k at.invariant.2 at.invariant.3
-    (omega arith) s.args.out.now at.invariant.4))
+loop-k-init c = (refl, omega arith, omega arith, refl, refl)
+
+pub put_line-at-requires : goal.put_line-at-requires
+unfolding sorted_of
+put_line-at-requires c = record {
+  start_in_bounds = all-get c.loop-k.k 0 c.requires.sorts.starts (omega (arith, c.requires.sorts.room));
+  start_in_bounds_2 = fits c.args.text.now c.args.order.now c.args.count
+      c.requires.count_value c.requires.sorts c.loop-k.at c.loop-k.k c.loop-k.invariant.2 c.loop-k.invariant.3 (omega arith);
+  text_in_bounds = omega (arith, c.requires.text_in_bounds);
+}
+
+pub loop-k-preserved : goal.loop-k-preserved
+unfolding sorted_of
+loop-k-preserved c = let n = turn c.args.text.now c.args.order.now c.args.count c.requires.count_value c.requires.sorts c.loop-k.at c.loop-k.k c.loop-k.invariant.2 c.loop-k.invariant.3
+    (omega arith) c.args.out.now c.put_line-at.result c.loop-k.invariant.4 c.put_line-at.ensures.value c.put_line-at.ensures.out_after in
+    (c.put_line-at.auto.out ∙ c.loop-k.invariant.0, omega arith, n.0, n.1, n.2)
+
+pub returns : goal.returns
+unfolding sorted_of
+returns c = end c.args.text.now c.args.order.now c.args.count c.requires.count_value c.requires.sorts c.loop-k.at c.loop-k.k c.loop-k.invariant.2 c.loop-k.invariant.3
+    (omega arith) c.args.out.now c.loop-k.invariant.4

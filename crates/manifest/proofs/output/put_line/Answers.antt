@@ -1,4 +1,5 @@
 -- `manifest::output::put_line` meets its contract: the line's bytes, and its newline where there is room. Assumes nothing.
+-- x is the buffer with the line's bytes b put at a place of it, and next the place behind them
 use mathlib.Core.Path.{◌≡◌, sym, ap, ◌∙◌}
 use mathlib.Core.List.{List, [], ◌∷◌, ◌++◌, append_assoc}
 use Prim.Native.Nat.{ℕ, suc, ◌+◌, ◌-◌, ◌<◌, ◌≤◌}
@@ -8,11 +9,8 @@ use lib.ListN.{length, get_or, set, take, drop, length-append}
 use lib.Seq.{take_all, take-append_seam, drop-cons, set_at, length-take-le}
 use Rattle.manifest.specs.Steps.{line_from, piece_of, pasted_of}
 use Rattle.manifest.proofs.Lines.{line-bytes}
-use borrow.Author.Rules.{rules}
-use Rattle.manifest.proofs.output.put_line.Statement.{statement}
-use Rattle.manifest.proofs.output.put_line.Tie as tie
+use Rattle.manifest.proofs.output.put_line.Goals as goal
 
--- x is the buffer with the line's bytes b put at a place of it, and next the place behind them
 module _ (out l b : List ℕ) (at n next : ℕ) (same : b ≡ l) (fits : at + length l ≤ n) (room : n ≤ length out) (q : next ≡ at + length l) {x : List ℕ}
     (e : x ≡ pasted_of at b out) where
   copied : x ≡ take at out ++ (l ++ drop next out)
@@ -43,29 +41,19 @@ module _ (out l b : List ℕ) (at n next : ℕ) (same : b ≡ l) (fits : at + le
       let p : take (n - at) (l ++ (10 ∷ [])) ≡ l = ap (λ (j : ℕ). take j (l ++ (10 ∷ []))) k ∙ take-append_seam l (10 ∷ []) in
       (rw p q, rw (p, ← q) copied)
 
-pub put-line-spec : {M : Type 1} → statement M
-put-line-spec =
-    tie.close
-    (tie.spec
-    (λ c κs. search rules)
-    (λ c. search rules)
-    (λ c. search rules)
-    (λ c. search rules)
-    (λ c κs. search rules)
-    (λ c. search rules)
-    (λ c. search rules)
-    (λ c. omega arith)
-    (λ c. search rules)
-    (λ c. search rules)
-    (λ c. search rules)
-    (λ c. let a = c.before.before.before.before.before.before.before.before.before.args in
-    let f = c.before.before.before.before.before.before.line-end in
-    ended a.out.now (line_from a.text.now a.start) _ a.at (length a.text.now) (a.at + (f.result - a.start))
-    (line-bytes a.text.now a.start f.result f.ensures.0) (omega arith) (omega arith) (omega arith)
-    c.before.before.before.copy.ensures (omega arith))
-    (λ c. search rules)
-    (λ c. let a = c.before.before.before.before.before.before.before.before.before.args in
-    let f = c.before.before.before.before.before.before.line-end in
-    bare a.out.now (line_from a.text.now a.start) _ a.at (length a.text.now) (a.at + (f.result - a.start))
-    (line-bytes a.text.now a.start f.result f.ensures.0) (omega arith) (omega arith) (omega arith)
-    c.before.before.before.copy.ensures (omega arith)))
+pub overflow_sub-left : goal.overflow_sub-left
+overflow_sub-left c = omega arith
+
+pub returns-then-left-gt0 : goal.returns-then-left-gt0
+returns-then-left-gt0 c =
+    let both = ended c.args.out.now (line_from c.args.text.now c.args.start) _ c.args.at (length c.args.text.now) (c.args.at + (c.line_end-end.result - c.args.start))
+    (line-bytes c.args.text.now c.args.start c.line_end-end.result c.line_end-end.ensures.value) (omega arith) (omega arith) (omega arith)
+    c.copy.ensures (omega arith) in
+    record { value = both.0; out_after = both.1 }
+
+pub returns : goal.returns
+returns c =
+    let both = bare c.args.out.now (line_from c.args.text.now c.args.start) _ c.args.at (length c.args.text.now) (c.args.at + (c.line_end-end.result - c.args.start))
+    (line-bytes c.args.text.now c.args.start c.line_end-end.result c.line_end-end.ensures.value) (omega arith) (omega arith) (omega arith)
+    c.copy.ensures (omega arith) in
+    record { value = both.0; out_after = both.1 }
