@@ -1,5 +1,5 @@
 -- `reasons::leak::millionths` meets its contract: the two tests are what the conversion asks. Assumes nothing.
-use Rattle.std.proofs.Common.{T, sym, refl, subst, rules}
+use Rattle.std.proofs.Common.{T, sym, refl, subst}
 use lib.Ieee.{of_bits, neg}
 use Rattle.laws.specs.Choice.{pick_yes, pick_no}
 use Rattle.reasons.specs.Leak.{millionths_of}

@@ -1,5 +1,4 @@
-use Rattle.std.proofs.Common.{◌≡◌, ℕ, zero, suc, ◌+◌, ◌-◌, ◌*◌, ◌/◌, ◌%◌, ◌<◌, ◌≤◌, List, [], ◌∷◌, ◌++◌, length, take, set, sym, refl, ap, ◌∙◌, append_assoc, append-nil, add-one, arith, length-set, take-suc-set, rules, eq-eqb, ne_eqb}
-use Rattle.laws.specs.Choice.{pick_yes, pick_no}
+use Rattle.std.proofs.Common.{◌≡◌, ◌+◌, ◌<◌, ◌++◌, length, take}
 use Rattle.reasons.specs.Leak.{places_of}
 use Rattle.reasons.proofs.leak.put_places.Given as goal
 

@@ -1,5 +1,5 @@
 -- `reasons::lines::put_line` meets its contract. Assumes nothing.
-use Rattle.std.proofs.Common.{◌≡◌, ℕ, List, take, subst, arith, rules}
+use Rattle.std.proofs.Common.{◌≡◌, ℕ, List, take, subst, arith}
 use lib.Ieee.{Float}
 use Rattle.reasons.specs.Line.{Why}
 use Rattle.reasons.proofs.lines.put_line.Goals as goal

@@ -1,5 +1,5 @@
 -- `reasons::tally::count` meets its contract. Assumes nothing.
-use Rattle.std.proofs.Common.{set, ap, rules}
+use Rattle.std.proofs.Common.{set, ap}
 use Rattle.reasons.proofs.tally.count.Goals as goal
 
 pub returns : goal.returns

@@ -1,5 +1,5 @@
 -- `reasons::tally::count_block` meets its contract. Assumes nothing.
-use Rattle.std.proofs.Common.{ap, ◌∙◌, rules, eq-eqb, ne_eqb}
+use Rattle.std.proofs.Common.{ap, ◌∙◌, eq-eqb, ne_eqb}
 use Rattle.laws.specs.Choice.{pick_yes, pick_no}
 use Rattle.reasons.specs.Tally.{counted_of, block_counted}
 use Rattle.reasons.proofs.tally.count_block.Goals as goal

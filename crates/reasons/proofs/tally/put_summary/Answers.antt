@@ -1,5 +1,5 @@
 -- `reasons::tally::put_summary` meets its contract: after n turns the rows of the numbers 1 to n stand behind the heading. Assumes nothing.
-use Rattle.std.proofs.Common.{◌≡◌, ℕ, suc, ◌+◌, ◌-◌, ◌*◌, ◌≤◌, List, length, get_or, take, sym, refl, subst, le_antisymm, add-one, rules}
+use Rattle.std.proofs.Common.{ℕ, suc, ◌+◌, ◌≤◌, List, get_or, sym, refl, subst, le_antisymm, add-one, rules}
 use Rattle.reasons.specs.Tally.{Heading, Row, Rows, Summary}
 use Rattle.reasons.proofs.tally.put_summary.Invariants.{Going}
 use Rattle.reasons.proofs.tally.put_summary.Goals as goal

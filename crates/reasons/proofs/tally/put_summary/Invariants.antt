@@ -1,5 +1,5 @@
-use Rattle.std.proofs.Common.{◌≡◌, ℕ, suc, ◌+◌, ◌-◌, ◌*◌, ◌≤◌, List, length, get_or, take, sym, refl, subst, le_antisymm, add-one, rules}
-use Rattle.reasons.specs.Tally.{Heading, Row, Rows, Summary}
+use Rattle.std.proofs.Common.{◌≡◌, ℕ, ◌+◌, ◌-◌, ◌*◌, ◌≤◌, List, length, take}
+use Rattle.reasons.specs.Tally.{Heading, Rows}
 use Rattle.reasons.proofs.tally.put_summary.Given as goal
 
 pub record Going (blocks : ℕ) (counts : List ℕ) (n : ℕ) (t : List ℕ) : Type 0 where
