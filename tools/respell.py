@@ -5,7 +5,7 @@ usage: tools/respell.py        at the top of the repository, once, right after p
 
 A word, or a part of a word between dashes, that begins with a small letter and has a capital is turned: `halfOf` becomes `half_of`. Words
 that begin with a capital are facts and types, and stay; so do the dashes that join the names of a lemma. Before anything is written it
-looks for two words that would become one, and stops there. Strings of the sources are left alone.
+looks for two words that would become one, and stops there. It takes a byte as b'N' for a word: those were put back by hand.
 """
 import collections
 import os

@@ -20,15 +20,15 @@ pub fn run(letter: u8, buffer: &mut [f64], given: usize, room: usize) -> Ran
     requires room_bound { room ≤ 1024 }
 {
     match letter {
-        b'f' | b'_f' => answer(forward(buffer, given, room)),
-        b'g' | b'_g' => answer(forward_with(buffer, given, room)),
-        b'i' | b'_i' => inverted(inverse(buffer, given, room)),
-        b'j' | b'_j' => inverted(inverse_with(buffer, given, room)),
-        b'h' | b'_h' => inverted(inverse_half_with(buffer, given, false, room)),
-        b'l' | b'_l' => inverted(inverse_half_with(buffer, given, true, room)),
-        b'b' | b'_b' => inverted(both_ways(buffer, given, room)),
-        b'c' | b'_c' => answer(complex_fft::complex_forward(&mut buffer[..given])),
-        b'r' | b'_r' => answer(complex_fft::complex_inverse(&mut buffer[..given])),
+        b'f' | b'F' => answer(forward(buffer, given, room)),
+        b'g' | b'G' => answer(forward_with(buffer, given, room)),
+        b'i' | b'I' => inverted(inverse(buffer, given, room)),
+        b'j' | b'J' => inverted(inverse_with(buffer, given, room)),
+        b'h' | b'H' => inverted(inverse_half_with(buffer, given, false, room)),
+        b'l' | b'L' => inverted(inverse_half_with(buffer, given, true, room)),
+        b'b' | b'B' => inverted(both_ways(buffer, given, room)),
+        b'c' | b'C' => answer(complex_fft::complex_forward(&mut buffer[..given])),
+        b'r' | b'R' => answer(complex_fft::complex_inverse(&mut buffer[..given])),
         _ => Ran::Nothing,
     }
 }

@@ -62,22 +62,22 @@ fn answer(letter: u8, a: u64, b: u64, c: u64) -> Found {
     let v = numbers::from_bits32(low(b));
     match letter {
         b'n' => bits32(numbers::narrow(x)),
-        b'_n' => Found::Bits(wide(numbers::narrow_bits(x))),
+        b'N' => Found::Bits(wide(numbers::narrow_bits(x))),
         b't' => Found::Bits(told(x)),
         b'l' => Found::Bits(listed(x, b, z)),
-        b'_l' => Found::Bits(counted(x, b, z)),
+        b'L' => Found::Bits(counted(x, b, z)),
         b'w' => bits(numbers::widen(u)),
         b'a' => bits(numbers::abs(x)),
-        b'_a' => bits32(numbers::abs32(u)),
+        b'A' => bits32(numbers::abs32(u)),
         b'i' => bits(numbers::min(x, y)),
         b'x' => bits(numbers::max(x, y)),
-        b'_x' => bits32(numbers::max32(u, v)),
+        b'X' => bits32(numbers::max32(u, v)),
         b'c' => bits(numbers::clamp(x, y, z)),
         b'f' => flag(numbers::is_finite(x)),
-        b'_f' => flag(numbers::is_finite32(u)),
+        b'F' => flag(numbers::is_finite32(u)),
         b'z' => bits32(numbers::finite_or_zero(u)),
         b'b' => bits(x),
-        b'_b' => bits32(u),
+        b'B' => bits32(u),
         _ => Found::Nothing,
     }
 }

@@ -130,9 +130,9 @@ fn write_made(line: &[u8], payload: &mut [u8]) -> Found
     cases::noise8(BEFORE, &mut buffer);
     let got = record::write(kind, payload, &mut buffer[..room]);
     match line[0] {
-        b'_r' => number(got.refusal),
-        b'_w' => Found::Number(got.written as u64),
-        b'_b' => Found::Number(cases::hash_of8(&buffer)),
+        b'R' => number(got.refusal),
+        b'W' => Found::Number(got.written as u64),
+        b'B' => Found::Number(cases::hash_of8(&buffer)),
         _ => Found::Nothing,
     }
 }
