@@ -10,7 +10,7 @@ use lib.Ieee.{Float, fin, binary64, add, sub, mul, neg, of_bits}
 use Rattle.complex.specs.declared.Complex.{Complex}
 use Rattle.complex.specs.Complexes.{get_c, add_c, sub_c, mul_c, conj_c, scale_c}
 use Rattle.complex_fft.specs.ComplexFft.{run_of}
-use Rattle.fft.specs.RealFft.{half, bin_from, bin_of, bins_of, half_from, half_of, halves_of, spectrum_with, samples_with}
+use Rattle.fft.specs.RealFft.{half, bin_from, bin_of, bins_of, half_of, halves_of, spectrum_with, samples_with}
 use Rattle.complex_fft.specs.Reversal.{reversal_table}
 use Rattle.fft.specs.Calls.{spectrum_of, samples_of}
 use Rattle.laws.specs.Tables.{table2, length-table2}
@@ -117,7 +117,7 @@ module _ (t : List Float) (F : Kept Finite 514 t) (r : List ℕ) (R : Places r) 
       (λ k b. faint-bin (get_c z (k % 256)) (get_c z ((256 - k) % 256)) (get_c t k) (get-parts (k % 256) g (omega arith)) (get-parts ((256 - k) % 256) g (omega arith)))
 
   pub samples-faint : (x : List Float) → Kept Faint 514 x → Kept Faint 512 (samples_with t r x)
-  unfolding samples_with halves_of half_of half_from
+  unfolding samples_with halves_of half_of
   samples-faint x h =
       let z = table2 256 (λ k. (half_of t x k).re) (λ k. (half_of t x k).im) in
       let g : Kept Faint 512 z = pairs-keep (half_of t x) 256
@@ -125,7 +125,7 @@ module _ (t : List Float) (F : Kept Finite 514 t) (r : List ℕ) (R : Places r) 
       narrowed-keeps (λ x p. faint-narrow p) (run-keeps faint-steady t F r R true z g)
 
   pub samples-plus : (x : List Float) → Kept Plus 514 x → Kept Plus 512 (samples_with t r x)
-  unfolding samples_with halves_of half_of half_from
+  unfolding samples_with halves_of half_of
   samples-plus x h =
       let z = table2 256 (λ k. (half_of t x k).re) (λ k. (half_of t x k).im) in
       let g : Kept Plus 512 z = pairs-keep (half_of t x) 256

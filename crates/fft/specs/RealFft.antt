@@ -30,19 +30,16 @@ bin_of t z k = bin_from (get_c z (k % 256)) (get_c z ((256 - k) % 256)) (get_c t
 unfoldable pub bins_of : List Float → List Float → List Float
 bins_of t z = table2 257 (λ k. (bin_of t z k).re) (λ k. (bin_of t z k).im)
 
--- number k of the half-length spectrum, of bin k of the real one, the bin at its mirror and the table's entry k:
+-- number k of the half-length spectrum, of the real spectrum x:
 -- E[k] = (X[k] + conj(X[256-k])) / 2, O[k] = conj(W[k]) (X[k] - conj(X[256-k])) / 2, Z[k] = E[k] + i O[k]
-unfoldable pub half_from : Complex → Complex → Complex → Complex
-half_from xk other w =
-    let mirror = conj_c other in
+unfoldable pub half_of : List Float → List Float → ℕ → Complex
+half_of t x k =
+    let xk = get_c x k in
+    let mirror = conj_c (get_c x (256 - k)) in
     let even = scale_c (add_c xk mirror) half in
     let diff = sub_c xk mirror in
-    let odd = scale_c (mul_c (conj_c w) diff) half in
+    let odd = scale_c (mul_c (conj_c (get_c t k)) diff) half in
     new_c (sub binary64 even.re odd.im) (add binary64 even.im odd.re)
-
--- of the real spectrum x
-unfoldable pub half_of : List Float → List Float → ℕ → Complex
-half_of t x k = half_from (get_c x k) (get_c x (256 - k)) (get_c t k)
 
 unfoldable pub halves_of : List Float → List Float → List Float
 halves_of t x = table2 256 (λ k. (half_of t x k).re) (λ k. (half_of t x k).im)

@@ -8,7 +8,7 @@ ghost use Rattle.complex_fft.specs.ComplexFft.{run_of};
 ghost use Rattle.complex_fft.specs.Reversal.{reversal_table};
 ghost use Rattle.self_sorting.specs.Passes.{loaded, points_of, passes};
 ghost use Rattle.fft.specs.Calls.{lent_of, half_of_samples};
-ghost use Rattle.fft.specs.RealFft.{bin_from, bin_of, bins_of, half_from, half_of, halves_of};
+ghost use Rattle.fft.specs.RealFft.{bin_from, bin_of, bins_of, half_of, halves_of};
 ghost use Rattle.fft.specs.Scratch.{scaled_from, points_in};
 ghost use Rattle.fft.specs.Promises.{Forward, Inverse, ForwardWith, InverseWith, InverseHalfWith, RefusedKeeps};
 
@@ -18,7 +18,7 @@ use complex_fft::{DONE, WRONG_LENGTH};
 use self_sorting::{all_passes, get_split, put_split};
 
 // The even samples are the real parts and the odd ones the imaginary: they go straight into the core's scratch.
-pub fn load_samples(input: &[f32], z: &mut [f64])
+fn load_samples(input: &[f32], z: &mut [f64])
     requires input_len { length input.now ≡ 512 }
     requires z_len { length z.old ≡ 1024 }
     ensures { z.new ≡ loaded input.now z.old }
@@ -30,17 +30,6 @@ pub fn load_samples(input: &[f32], z: &mut [f64])
     }
 }
 
-// Number k of the half-length spectrum, of bin k of the real one, of the bin at its mirror and of the table's entry k.
-pub fn half_from(x_k: Complex, other: Complex, twiddle: Complex) -> Complex
-    ensures { result ≡ half_from x_k other twiddle }
-{
-    let mirror = other.conj();
-    let even = x_k.add(mirror).scale(0.5);
-    let diff = x_k.sub(mirror);
-    let odd = twiddle.conj().mul(diff).scale(0.5);
-    Complex::new(even.re - odd.im, even.im + odd.re)
-}
-
 // Number k of the half-length spectrum, of the real one.
 fn half_bin(spectrum: &[f64], table: &[f64], k: usize) -> Complex
     requires spectrum_len { length spectrum.now ≡ 514 }
@@ -49,8 +38,11 @@ fn half_bin(spectrum: &[f64], table: &[f64], k: usize) -> Complex
     ensures { result ≡ half_of table.now spectrum.now k }
 {
     let x_k = get(spectrum, k);
-    let other = get(spectrum, 256 - k);
-    half_from(x_k, other, get(table, k))
+    let x_mirror = get(spectrum, 256 - k).conj();
+    let even = x_k.add(x_mirror).scale(0.5);
+    let diff = x_k.sub(x_mirror);
+    let odd = get(table, k).conj().mul(diff).scale(0.5);
+    Complex::new(even.re - odd.im, even.im + odd.re)
 }
 
 // The half-length spectrum, straight into the core's scratch.
@@ -78,7 +70,7 @@ fn bin_from(this: Complex, other: Complex, twiddle: Complex) -> Complex
 }
 
 // Bin k of the transformed points in the scratch. The places are the caller's, so that none of them is computed by a remainder.
-pub fn bin(z: &[f64], table: &[f64], k: usize, here: usize, mirror: usize) -> Complex
+fn bin(z: &[f64], table: &[f64], k: usize, here: usize, mirror: usize) -> Complex
     requires z_len { length z.now ≡ 1024 }
     requires table_len { length table.now ≡ 514 }
     requires k_bound { k ≤ 256 }
@@ -169,7 +161,7 @@ fn overs_at(z: &[f64], first: usize, n: usize) -> usize
 }
 
 // The first or the later half of the samples. How many of all went over.
-pub fn half_at(z: &mut [f64], later: bool, half: &mut [f32]) -> usize
+fn half_at(z: &mut [f64], later: bool, half: &mut [f32]) -> usize
     requires z_len { length z.old ≡ 1024 }
     requires half_len { length half.old ≡ 256 }
     ensures half_after { half.new ≡ half_of_samples later (map narrow_of (points_in z.old)) }
@@ -209,7 +201,7 @@ pub struct Inverted {
     pub overs: usize,
 }
 
-pub fn refused() -> Inverted
+fn refused() -> Inverted
     ensures { result ≡ record { refusal = 2; overs = 0 } }
 {
     Inverted {
@@ -240,7 +232,7 @@ pub fn inverse(spectrum: &[f64], out: &mut [f32]) -> Inverted
 }
 
 // Whether the table has the needed length and the scratch 1,024 numbers, two halves for the core to work between.
-pub fn lent(table: &[f64], scratch: &[f64]) -> bool
+fn lent(table: &[f64], scratch: &[f64]) -> bool
     ensures { result ≡ lent_of table.now scratch.now }
 {
     if table.len() != 514 {
