@@ -9,8 +9,7 @@ use Rattle.record.specs.declared.reading.Found.{Found}
 use Rattle.record.specs.Reading.{read_of}
 use Rattle.capi.specs.Record.{placed_of, record_read_of}
 use Rattle.capi.proofs.Record.{size-six}
-use Rattle.capi.proofs.record_calls.aspeyruni_record_read.Statement.{statement}
-use Rattle.capi.proofs.record_calls.aspeyruni_record_read.Tie as tie
+use Rattle.capi.proofs.record_calls.aspeyruni_record_read.Goals as goal
 
 module _ (s : List ℕ) {found : Found} (e : found ≡ read_of s) where
   refused : (found.refusal ≡ 0 → ⊥)
@@ -24,11 +23,11 @@ module _ (s : List ℕ) {found : Found} (e : found ≡ read_of s) where
       → record { refusal = found.refusal; kind = found.kind; size = found.size; payload_at = 6; payload_len = found.size - 6 } ≡ record_read_of s
   placed h = pick_yes _ _ _ (eq-eqb found.refusal 0 h) refl ∙ ap placed_of e
 
-pub aspeyruni-record-read-spec : {M : Type 1} → statement M
-aspeyruni-record-read-spec =
-    tie.close
-    (tie.spec
-    (λ c κs. search rules)
-    (λ c. refused c.before.before.before.before.args.bytes.now c.before.before.read.ensures c.if1.true)
-    (λ c. six c.before.before.before.before.before.args.bytes.now c.before.before.before.read.ensures c.before.if1.false)
-    (λ c. placed c.before.before.before.before.before.args.bytes.now c.before.before.before.read.ensures c.before.if1.false))
+pub returns-then-found-ne0 : goal.returns-then-found-ne0
+returns-then-found-ne0 c = refused c.args.bytes.now c.read-found.ensures c.if-found-ne0.true
+
+pub overflow_sub-result : goal.overflow_sub-result
+overflow_sub-result c = six c.args.bytes.now c.read-found.ensures c.if-found-ne0.false
+
+pub returns : goal.returns
+returns c = placed c.args.bytes.now c.read-found.ensures c.if-found-ne0.false

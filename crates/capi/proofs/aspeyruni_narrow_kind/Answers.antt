@@ -1,0 +1,6 @@
+-- `capi::aspeyruni_narrow_kind` gives the number of what `narrow_told` tells. Assumes nothing.
+use borrow.Author.Rules.{rules}
+use Rattle.capi.proofs.aspeyruni_narrow_kind.Goals as goal
+
+pub returns : goal.returns
+returns c = rw (c.kind_number.ensures, c.narrow_told-told.ensures)
