@@ -7,32 +7,42 @@
 mod input;
 
 use input::{Input, read_all};
-use libc::{STDERR_FILENO, STDOUT_FILENO};
+use pipe::write_all;
+use std::io::Write;
 
-fn main() {
+fn main(rt: HostRuntime) {
+    let mut stdin = rt.stdin();
+    let mut output = rt.stdout();
+    let mut errors = rt.stderr();
     let mut text = [0u8; 65536];
-    let input = read_all(&mut text);
+    let input = read_all(&mut stdin, &mut text);
     match input {
-        Input::Whole(held) => put_sorted(&text[..held]),
-        Input::TooLong => complain(b"sort_manifest: the manifest has more than 65536 bytes\n"),
-        Input::Failed => complain(b"sort_manifest: a read failed\n"),
+        Input::Whole(held) => put_sorted(&mut output, &mut errors, &text[..held]),
+        Input::TooLong => complain(
+            &mut errors,
+            b"sort_manifest: the manifest has more than 65536 bytes\n",
+        ),
+        Input::Failed => complain(&mut errors, b"sort_manifest: a read failed\n"),
     }
 }
 
 // Of the refusals only the one for the lines is left: the text has at most 65,536 bytes, and `out` has as many.
-fn put_sorted(text: &[u8]) {
+fn put_sorted<W: Write, E: Write>(output: &mut W, errors: &mut E, text: &[u8]) {
     let mut out = [0u8; 65536];
     let sorted = manifest::sort(text, &mut out);
     if sorted.refusal != 0 {
-        complain(b"sort_manifest: the manifest has more than 4096 lines\n");
+        complain(
+            errors,
+            b"sort_manifest: the manifest has more than 4096 lines\n",
+        );
         return;
     }
     let written = sorted.written;
-    if !io::write_all(STDOUT_FILENO, &out[..written]) {
-        complain(b"sort_manifest: a write failed\n");
+    if !write_all(output, &out[..written]) {
+        complain(errors, b"sort_manifest: a write failed\n");
     }
 }
 
-fn complain(line: &[u8]) {
-    io::write_all(STDERR_FILENO, line);
+fn complain<E: Write>(errors: &mut E, line: &[u8]) {
+    write_all(errors, line);
 }
