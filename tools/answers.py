@@ -230,14 +230,19 @@ class Turner:
             self.say(f"no loop {old}")
             return None
         want = len(names) + sum(changed)
-        if len(params) != want:
-            self.say(f"loop {old}: {len(params)} parameters and not {want}: {names} {changed}")
         become = {}
-        for i, n in enumerate(names):
-            if i < len(params):
+        if len(params) == want:
+            for i, n in enumerate(names):
                 become[params[i]] = f"l.initial.{n}" if changed[i] else f"l.{n}"
-        for p, n in zip(params[len(names):], [n for n, c in zip(names, changed) if c]):
-            become[p] = f"l.{n}"
+            for p, n in zip(params[len(names):], [n for n, c in zip(names, changed) if c]):
+                become[p] = f"l.{n}"
+        else:
+            for p in params:
+                n = p.strip("₀«»")
+                if n in names:
+                    become[p] = f"l.initial.{n}" if p.endswith("₀") else f"l.{n}"
+                else:
+                    self.say(f"loop {old}: no variable {p} among {names}")
 
         def turn(m):
             word = m[1]

@@ -9,6 +9,7 @@
 ghost use Rattle.std.specs.Prelude.{◌≡◌, ◌≤◌, length};
 
 use cases::Tally;
+use std::io::Write;
 
 // A letter, four times a blank and 16 digits, and the line's end.
 const SIZE: usize = 70;
@@ -22,35 +23,37 @@ pub enum Found {
 
 // A proved loop has to end, and nothing says that the input does. So it counts its turns down, from a
 // number that no list uses up.
-fn main() {
-    let mut block = io::large_buffer();
-    let mut source = cases::fill(SIZE, &mut block);
+fn main(rt: HostRuntime) {
+    let mut input = rt.stdin();
+    let mut output = rt.stdout();
+    let mut block = [0u8; 65536];
+    let mut source = cases::fill(&mut input, SIZE, &mut block);
     let mut tally = cases::none();
     let mut turns = u64::MAX;
     while turns > 0 && SIZE <= source.left {
         let at = source.at;
         let end = at + SIZE;
-        tally = judged(tally, &block[at..end]);
-        source = cases::next(source, SIZE, &mut block);
+        tally = judged(&mut output, tally, &block[at..end]);
+        source = cases::next(&mut input, source, SIZE, &mut block);
         turns -= 1;
     }
-    cases::verdict(b"numbers_cases", tally, source.left);
+    cases::verdict(&mut output, b"numbers_cases", tally, source.left);
 }
 
 // The tally with one line more.
-fn judged(t: Tally, line: &[u8]) -> Tally
+fn judged<W: Write>(output: &mut W, t: Tally, line: &[u8]) -> Tally
     requires { length line.now ≡ 70 }
 {
     if !cases::is_case(line) {
-        return cases::refuse(t);
+        return cases::refuse(output, t);
     }
     let a = cases::field(line, 0);
     let b = cases::field(line, 1);
     let c = cases::field(line, 2);
     let Found::Bits(got) = answer(line[0], a, b, c) else {
-        return cases::refuse(t);
+        return cases::refuse(output, t);
     };
-    cases::judge(t, got, cases::field(line, 3))
+    cases::judge(output, t, got, cases::field(line, 3))
 }
 
 // What the operation of this letter gives. The operands are x, y, z, or u, v where they are of 32 bits.
