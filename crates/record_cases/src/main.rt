@@ -25,6 +25,7 @@ ghost use Rattle.std.specs.Prelude.{◌≡◌, length};
 
 use cases::Tally;
 use made::{make_bytes, make_payload};
+use std::io::{Read, Write};
 
 // A letter, six times a blank and 16 digits, and the line's end.
 const SIZE: usize = 104;
@@ -39,34 +40,40 @@ pub enum Found {
     Nothing,
 }
 
+fn main(rt: HostRuntime) {
+    let mut stdin = rt.stdin();
+    let mut stdout = rt.stdout();
+    run(&mut stdin, &mut stdout);
+}
+
 // A proved loop has to end, and nothing says that the input does. So it counts its turns down, from a
 // number that no list uses up.
-fn main() {
-    let mut block = io::large_buffer();
-    let mut source = cases::fill(SIZE, &mut block);
+fn run<R: Read, W: Write>(stdin: &mut R, stdout: &mut W) {
+    let mut block = [0u8; 65536];
+    let mut source = cases::fill(stdin, SIZE, &mut block);
     let mut tally = cases::none();
     let mut turns = u64::MAX;
     while turns > 0 && SIZE <= source.left {
         let at = source.at;
         let end = at + SIZE;
-        tally = judged(tally, &block[at..end]);
-        source = cases::next(source, SIZE, &mut block);
+        tally = judged(stdout, tally, &block[at..end]);
+        source = cases::next(stdin, source, SIZE, &mut block);
         turns -= 1;
     }
-    cases::verdict(b"record_cases", tally, source.left);
+    cases::verdict(stdout, b"record_cases", tally, source.left);
 }
 
 // The tally with one line more.
-fn judged(t: Tally, line: &[u8]) -> Tally
+fn judged<W: Write>(stdout: &mut W, t: Tally, line: &[u8]) -> Tally
     requires { length line.now ≡ 104 }
 {
     if !cases::is_case(line) {
-        return cases::refuse(t);
+        return cases::refuse(stdout, t);
     }
     let Found::Number(got) = answered(line) else {
-        return cases::refuse(t);
+        return cases::refuse(stdout, t);
     };
-    cases::judge(t, got, cases::field(line, 5))
+    cases::judge(stdout, t, got, cases::field(line, 5))
 }
 
 // The reader's letters are in lower case, the writer's in upper case.
