@@ -18,7 +18,7 @@ use complex_fft::{DONE, WRONG_LENGTH};
 use self_sorting::{all_passes, get_split, put_split};
 
 // The even samples are the real parts and the odd ones the imaginary: they go straight into the core's scratch.
-fn load_samples(input: &[f32], z: &mut [f64])
+pub(crate) fn load_samples(input: &[f32], z: &mut [f64])
     requires input_len { length input.now ≡ 512 }
     requires z_len { length z.old ≡ 1024 }
     ensures { z.new ≡ loaded input.now z.old }
@@ -70,7 +70,7 @@ fn bin_from(this: Complex, other: Complex, twiddle: Complex) -> Complex
 }
 
 // Bin k of the transformed points in the scratch. The places are the caller's, so that none of them is computed by a remainder.
-fn bin(z: &[f64], table: &[f64], k: usize, here: usize, mirror: usize) -> Complex
+pub(crate) fn bin(z: &[f64], table: &[f64], k: usize, here: usize, mirror: usize) -> Complex
     requires z_len { length z.now ≡ 1024 }
     requires table_len { length table.now ≡ 514 }
     requires k_bound { k ≤ 256 }
@@ -161,7 +161,7 @@ fn overs_at(z: &[f64], first: usize, n: usize) -> usize
 }
 
 // The first or the later half of the samples. How many of all went over.
-fn half_at(z: &mut [f64], later: bool, half: &mut [f32]) -> usize
+pub(crate) fn half_at(z: &mut [f64], later: bool, half: &mut [f32]) -> usize
     requires z_len { length z.old ≡ 1024 }
     requires half_len { length half.old ≡ 256 }
     ensures half_after { half.new ≡ half_of_samples later (map narrow_of (points_in z.old)) }
@@ -201,7 +201,7 @@ pub struct Inverted {
     pub overs: usize,
 }
 
-fn refused() -> Inverted
+pub(crate) fn refused() -> Inverted
     ensures { result ≡ record { refusal = 2; overs = 0 } }
 {
     Inverted {
@@ -232,7 +232,7 @@ pub fn inverse(spectrum: &[f64], out: &mut [f32]) -> Inverted
 }
 
 // Whether the table has the needed length and the scratch 1,024 numbers, two halves for the core to work between.
-fn lent(table: &[f64], scratch: &[f64]) -> bool
+pub(crate) fn lent(table: &[f64], scratch: &[f64]) -> bool
     ensures { result ≡ lent_of table.now scratch.now }
 {
     if table.len() != 514 {
