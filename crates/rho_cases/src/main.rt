@@ -27,6 +27,7 @@ ghost use Rattle.std.specs.Prelude.{◌≡◌, length};
 use calls::{Found, Got, called};
 use cases::Tally;
 use rho_state::state::RhoCanceller;
+use std::io::Write;
 
 // A letter, 22 times a blank and 16 digits, and the line's end.
 const SIZE: usize = 376;
@@ -40,24 +41,33 @@ pub struct Turn {
 
 // A proved loop has to end, and nothing says that the input does. So it counts its turns down, from a
 // number that no list uses up.
-fn main() {
-    let mut block = io::large_buffer();
+fn main(rt: HostRuntime) {
+    let mut input = rt.stdin();
+    let mut output = rt.stdout();
+    let mut block = [0u8; 65536];
     let mut weights = [0.0f32; 8200];
     let mut history = [0.0f32; 8200];
     let mut state = nothing();
-    let mut source = cases::fill(SIZE, &mut block);
+    let mut source = cases::fill(&mut input, SIZE, &mut block);
     let mut tally = cases::none();
     let mut turns = u64::MAX;
     while turns > 0 && SIZE <= source.left {
         let at = source.at;
         let end = at + SIZE;
-        let turn = judged(tally, state, &block[at..end], &mut weights, &mut history);
+        let turn = judged(
+            &mut output,
+            tally,
+            state,
+            &block[at..end],
+            &mut weights,
+            &mut history,
+        );
         tally = turn.tally;
         state = turn.state;
-        source = cases::next(source, SIZE, &mut block);
+        source = cases::next(&mut input, source, SIZE, &mut block);
         turns -= 1;
     }
-    cases::verdict(b"rho_cases", tally, source.left);
+    cases::verdict(&mut output, b"rho_cases", tally, source.left);
 }
 
 // Before the first creation.
@@ -74,7 +84,8 @@ fn nothing() -> RhoCanceller {
 }
 
 // The tally with one line more, and the state after it.
-fn judged(
+fn judged<W: Write>(
+    output: &mut W,
     tally: Tally,
     state: RhoCanceller,
     line: &[u8],
@@ -86,18 +97,19 @@ fn judged(
     requires history_len { length history.old ≡ 8200 }
 {
     if !cases::is_case(line) {
-        return refused(tally, state);
+        return refused(output, tally, state);
     }
     let lent = cases::field(line, 6);
     let taps = cases::high(lent) as usize;
     let lags = cases::low(lent) as usize;
     if 8200 < taps {
-        return refused(tally, state);
+        return refused(output, tally, state);
     }
     if 8200 < lags {
-        return refused(tally, state);
+        return refused(output, tally, state);
     }
     taken(
+        output,
         tally,
         state,
         line,
@@ -107,7 +119,8 @@ fn judged(
 }
 
 // The same, with what is lent to the call.
-fn taken(
+fn taken<W: Write>(
+    output: &mut W,
     tally: Tally,
     state: RhoCanceller,
     line: &[u8],
@@ -117,34 +130,34 @@ fn taken(
     requires { length line.now ≡ 376 }
 {
     let Found::All(got) = called(line, state, weights, history) else {
-        return refused(tally, state);
+        return refused(output, tally, state);
     };
     let after = got.state;
     let numbers = numbers_of(got, cases::hash_of32(weights), cases::hash_of32(history));
     Turn {
-        tally: compared(tally, line, numbers),
+        tally: compared(output, tally, line, numbers),
         state: after,
     }
 }
 
-fn refused(tally: Tally, state: RhoCanceller) -> Turn {
+fn refused<W: Write>(output: &mut W, tally: Tally, state: RhoCanceller) -> Turn {
     Turn {
-        tally: cases::refuse(tally),
+        tally: cases::refuse(output, tally),
         state,
     }
 }
 
 // One judgement a line, by the first number that differs.
-fn compared(tally: Tally, line: &[u8], got: [u64; 13]) -> Tally
+fn compared<W: Write>(output: &mut W, tally: Tally, line: &[u8], got: [u64; 13]) -> Tally
     requires { length line.now ≡ 376 }
 {
     for k in 0..13usize {
         let want = cases::field(line, 9 + k);
         if got[k] != want {
-            return cases::judge(tally, got[k], want);
+            return cases::judge(output, tally, got[k], want);
         }
     }
-    cases::judge(tally, 0, 0)
+    cases::judge(output, tally, 0, 0)
 }
 
 // Fields 9 to 21.
