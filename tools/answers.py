@@ -118,8 +118,8 @@ class Turner:
         return out
 
     def follow(self, place, path):
-        while path and path[0] == "before" and place:
-            place, path = self.places[place][1], path[1:]
+        while path and path[0] == "before":
+            place, path = self.places[place][1] or place, path[1:]
         return place, path
 
     def step(self, place, path, clue):
@@ -170,7 +170,7 @@ class Turner:
 
         def chain(m):
             name, path = m[1], [p for p in m[2].split(".") if p]
-            if name not in env or (not path and re.match(r"\s+=\s", m.string[m.end():])):
+            if name not in env or (not path and re.match(r"\s+=\s", m.string[m.end():]) and m.string[:m.start()].rstrip()[-1:] in "{;"):
                 return m[0]
             kind, value = env[name]
             if name == "at" and not path:
@@ -204,6 +204,8 @@ class Turner:
             text = text[m.end():]
 
     def chain_term(self, value, path):
+        if value == ["c", "requires"] and len(self.required) > 1:
+            path = self.labelled(self.required, path)
         words = value + path
         if len(words) > 3 and words[2] == "ensures":
             fields = self.fields_of(words[1])

@@ -3,7 +3,6 @@
 use Rattle.std.specs.Prelude.{List, ℕ, Float}
 use Rattle.std.specs.Float.{binary64}
 use Rattle.std.specs.Float.Ieee.{add, mul}
-use Rattle.complex.specs.declared.Complex.{Complex}
 use Rattle.complex.specs.Complexes.{get_c}
 
 -- re * re + im * im of bin k
