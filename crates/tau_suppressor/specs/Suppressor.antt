@@ -6,7 +6,6 @@ use Rattle.laws.specs.Choice.{pick}
 use Rattle.laws.specs.Loops.{iter, over, over2}
 use Rattle.laws.specs.Tables.{table}
 use Rattle.numbers.specs.Order.{clamp_of}
-use Rattle.complex.specs.declared.Complex.{Complex}
 use Rattle.complex.specs.Complexes.{new_c, scale_c}
 use Rattle.fft.specs.Calls.{spectrum_of, samples_of, overs_of}
 use Rattle.tau_state.specs.Constants.{zero64, one, f0·0003, f0·1, f0·2, f0·5, f0·7, smooth_by}
