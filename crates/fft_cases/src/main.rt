@@ -20,6 +20,7 @@ ghost use Rattle.std.specs.Prelude.{◌≡◌, length};
 
 use cases::Tally;
 use made::make;
+use std::io::Write;
 use transforms::{Ran, run};
 
 // A letter, twelve times a blank and 16 digits, and the line's end.
@@ -43,51 +44,53 @@ pub enum Found {
 
 // A proved loop has to end, and nothing says that the input does. So it counts its turns down, from a
 // number that no list uses up.
-fn main() {
-    let mut block = io::large_buffer();
-    let mut source = cases::fill(SIZE, &mut block);
+fn main(rt: HostRuntime) {
+    let mut input = rt.stdin();
+    let mut output = rt.stdout();
+    let mut block = [0u8; 65536];
+    let mut source = cases::fill(&mut input, SIZE, &mut block);
     let mut tally = cases::none();
     let mut turns = u64::MAX;
     while turns > 0 && SIZE <= source.left {
         let at = source.at;
         let end = at + SIZE;
-        tally = judged(tally, &block[at..end]);
-        source = cases::next(source, SIZE, &mut block);
+        tally = judged(&mut output, tally, &block[at..end]);
+        source = cases::next(&mut input, source, SIZE, &mut block);
         turns -= 1;
     }
-    cases::verdict(b"fft_cases", tally, source.left);
+    cases::verdict(&mut output, b"fft_cases", tally, source.left);
 }
 
 // The tally with one line more.
-fn judged(t: Tally, line: &[u8]) -> Tally
+fn judged<W: Write>(output: &mut W, t: Tally, line: &[u8]) -> Tally
     requires { length line.now ≡ 206 }
 {
     if !cases::is_case(line) {
-        return cases::refuse(t);
+        return cases::refuse(output, t);
     }
     let Found::All(got) = answered(line) else {
-        return cases::refuse(t);
+        return cases::refuse(output, t);
     };
-    compared(t, line, got)
+    compared(output, t, line, got)
 }
 
 // One judgement a line, by the first of the four numbers that differs.
-fn compared(t: Tally, line: &[u8], got: Answer) -> Tally
+fn compared<W: Write>(output: &mut W, t: Tally, line: &[u8], got: Answer) -> Tally
     requires { length line.now ≡ 206 }
 {
     let number = cases::field(line, 8);
     if got.number != number {
-        return cases::judge(t, got.number, number);
+        return cases::judge(output, t, got.number, number);
     }
     let hash = cases::field(line, 9);
     if got.hash != hash {
-        return cases::judge(t, got.hash, hash);
+        return cases::judge(output, t, got.hash, hash);
     }
     let first = cases::field(line, 10);
     if got.first != first {
-        return cases::judge(t, got.first, first);
+        return cases::judge(output, t, got.first, first);
     }
-    cases::judge(t, got.second, cases::field(line, 11))
+    cases::judge(output, t, got.second, cases::field(line, 11))
 }
 
 fn answered(line: &[u8]) -> Found
