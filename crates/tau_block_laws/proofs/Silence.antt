@@ -10,7 +10,7 @@ use Prim.Native.Nat.{ℕ, zero, suc, ◌+◌, ◌-◌, ◌*◌, ◌≤◌, ◌<�
 use native.Mathlib.Nat.{mod-lt, eq-or-lt_of_le, le_of_suc-le-suc}
 use native.Mathlib.Omega.{arith}
 use lib.IntN.{negsuc}
-use lib.Ieee.{Float, nan, fin, binary32, binary64, add, sub, mul, lt, ne, of_bits}
+use lib.Ieee.{Float, nan, fin, binary32, binary64, sub, mul, lt, ne, of_bits}
 use lib.ListN.{length, get_or, take, drop, replicate, length-append, length-drop, length-map, length-replicate, get_or-replicate}
 use lib.Seq.{length-take-le, take_at, ext_get_or}
 use Rattle.laws.specs.Choice.{pick, pick-if}
