@@ -21,6 +21,7 @@ ghost use Rattle.std.specs.Prelude.{◌≡◌, length};
 
 use cases::Tally;
 use got::{Got, because, fields_of};
+use std::io::Write;
 use steps::{begun, done};
 use tau_lines::fresh;
 use tau_state::state::TauCanceller;
@@ -37,20 +38,23 @@ pub struct Turn {
 
 // A proved loop has to end, and nothing says that the input does. So it counts its turns down, from a
 // number that no list uses up.
-fn main() {
-    let mut block = io::large_buffer();
+fn main(rt: HostRuntime) {
+    let mut stdin = rt.stdin();
+    let mut stdout = rt.stdout();
+    let mut block = [0u8; 65536];
     let mut shadow = [0.0f64; 16448];
     let mut output = [0.0f64; 16448];
     let mut spectra = [0.0f64; 16448];
     let mut powers = [0.0f64; 8224];
     let mut state = fresh();
-    let mut source = cases::fill(SIZE, &mut block);
+    let mut source = cases::fill(&mut stdin, SIZE, &mut block);
     let mut tally = cases::none();
     let mut turns = u64::MAX;
     while turns > 0 && SIZE <= source.left {
         let at = source.at;
         let end = at + SIZE;
         let turn = judged(
+            &mut stdout,
             tally,
             state,
             &block[at..end],
@@ -62,14 +66,15 @@ fn main() {
         tally = turn.tally;
         let after = turn.state;
         state = after;
-        source = cases::next(source, SIZE, &mut block);
+        source = cases::next(&mut stdin, source, SIZE, &mut block);
         turns -= 1;
     }
-    cases::verdict(b"block_cases", tally, source.left);
+    cases::verdict(&mut stdout, b"block_cases", tally, source.left);
 }
 
 // The tally with one line more, and the state after it.
-fn judged(
+fn judged<W: Write>(
+    stdout: &mut W,
     tally: Tally,
     state: TauCanceller,
     line: &[u8],
@@ -85,16 +90,17 @@ fn judged(
     requires powers_len { length powers.old ≡ 8224 }
 {
     if !cases::is_case(line) {
-        return refused(tally, state);
+        return refused(stdout, tally, state);
     }
     let start = begun(line, state);
     let partitions = start.partitions;
     if 32 < partitions {
-        return refused(tally, state);
+        return refused(stdout, tally, state);
     }
     let lent = 514 * partitions;
     let bins = 257 * partitions;
     taken(
+        stdout,
         tally,
         start,
         line,
@@ -106,7 +112,8 @@ fn judged(
 }
 
 // The same, with what is lent to the step.
-fn taken(
+fn taken<W: Write>(
+    stdout: &mut W,
     tally: Tally,
     state: TauCanceller,
     line: &[u8],
@@ -119,6 +126,7 @@ fn taken(
 {
     let got = done(line, state, shadow, output, spectra, powers);
     finished(
+        stdout,
         tally,
         line,
         got,
@@ -130,7 +138,8 @@ fn taken(
 }
 
 // The same, with what the step came to.
-fn finished(
+fn finished<W: Write>(
+    stdout: &mut W,
     tally: Tally,
     line: &[u8],
     got: Got,
@@ -143,38 +152,44 @@ fn finished(
 {
     let state = got.state;
     if !got.is_known {
-        return refused(tally, state);
+        return refused(stdout, tally, state);
     }
     let last = [because(got), powers];
     let numbers = fields_of(got, shadow, output, spectra);
     Turn {
-        tally: compared(tally, line, last, numbers),
+        tally: compared(stdout, tally, line, last, numbers),
         state,
     }
 }
 
-fn refused(tally: Tally, state: TauCanceller) -> Turn {
+fn refused<W: Write>(stdout: &mut W, tally: Tally, state: TauCanceller) -> Turn {
     Turn {
-        tally: cases::refuse(tally),
+        tally: cases::refuse(stdout, tally),
         state,
     }
 }
 
 // One judgement a line, by the first number that differs: of fields 39 and 40, then of 8 to 38.
-fn compared(tally: Tally, line: &[u8], last: [u64; 2], got: [u64; 31]) -> Tally
+fn compared<W: Write>(
+    stdout: &mut W,
+    tally: Tally,
+    line: &[u8],
+    last: [u64; 2],
+    got: [u64; 31],
+) -> Tally
     requires { length line.now ≡ 699 }
 {
     for k in 0..2usize {
         let want = cases::field(line, 39 + k);
         if last[k] != want {
-            return cases::judge(tally, last[k], want);
+            return cases::judge(stdout, tally, last[k], want);
         }
     }
     for k in 0..31usize {
         let want = cases::field(line, 8 + k);
         if got[k] != want {
-            return cases::judge(tally, got[k], want);
+            return cases::judge(stdout, tally, got[k], want);
         }
     }
-    cases::judge(tally, 0, 0)
+    cases::judge(stdout, tally, 0, 0)
 }

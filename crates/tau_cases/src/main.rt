@@ -23,6 +23,7 @@ ghost use Rattle.std.specs.Prelude.{◌≡◌, length};
 
 use calls::{Got, called};
 use cases::Tally;
+use std::io::Write;
 use tau_lines::{fresh, halves, numbers_of};
 use tau_state::state::TauCanceller;
 
@@ -38,20 +39,23 @@ pub struct Turn {
 
 // A proved loop has to end, and nothing says that the input does. So it counts its turns down, from a
 // number that no list uses up. The buffers have room for a length that is too large.
-fn main() {
-    let mut block = io::large_buffer();
+fn main(rt: HostRuntime) {
+    let mut stdin = rt.stdin();
+    let mut stdout = rt.stdout();
+    let mut block = [0u8; 65536];
     let mut shadow = [0.0f64; 16456];
     let mut output = [0.0f64; 16456];
     let mut spectra = [0.0f64; 16456];
     let mut powers = [0.0f64; 8232];
     let mut state = fresh();
-    let mut source = cases::fill(SIZE, &mut block);
+    let mut source = cases::fill(&mut stdin, SIZE, &mut block);
     let mut tally = cases::none();
     let mut turns = u64::MAX;
     while turns > 0 && SIZE <= source.left {
         let at = source.at;
         let end = at + SIZE;
         let turn = judged(
+            &mut stdout,
             tally,
             state,
             &block[at..end],
@@ -63,14 +67,15 @@ fn main() {
         tally = turn.tally;
         let after = turn.state;
         state = after;
-        source = cases::next(source, SIZE, &mut block);
+        source = cases::next(&mut stdin, source, SIZE, &mut block);
         turns -= 1;
     }
-    cases::verdict(b"tau_cases", tally, source.left);
+    cases::verdict(&mut stdout, b"tau_cases", tally, source.left);
 }
 
 // The tally with one line more, and the state after it.
-fn judged(
+fn judged<W: Write>(
+    stdout: &mut W,
     tally: Tally,
     state: TauCanceller,
     line: &[u8],
@@ -86,7 +91,7 @@ fn judged(
     requires powers_len { length powers.old ≡ 8232 }
 {
     if !cases::is_case(line) {
-        return refused(tally, state);
+        return refused(stdout, tally, state);
     }
     let weights = cases::field(line, 39);
     let shadows = cases::high(weights) as usize;
@@ -94,12 +99,13 @@ fn judged(
     let slots = cases::high(cases::field(line, 40)) as usize;
     let bins = cases::field(line, 45) as usize;
     if 16456 < shadows || 16456 < outputs {
-        return refused(tally, state);
+        return refused(stdout, tally, state);
     }
     if 16456 < slots || 8232 < bins {
-        return refused(tally, state);
+        return refused(stdout, tally, state);
     }
     taken(
+        stdout,
         tally,
         state,
         line,
@@ -111,7 +117,8 @@ fn judged(
 }
 
 // The same, with what is lent to the call.
-fn taken(
+fn taken<W: Write>(
+    stdout: &mut W,
     tally: Tally,
     state: TauCanceller,
     line: &[u8],
@@ -124,6 +131,7 @@ fn taken(
 {
     let got = called(line, state, shadow, output, spectra, powers);
     finished(
+        stdout,
         tally,
         line,
         got,
@@ -135,7 +143,8 @@ fn taken(
 }
 
 // The same, with what the call came to.
-fn finished(
+fn finished<W: Write>(
+    stdout: &mut W,
     tally: Tally,
     line: &[u8],
     got: Got,
@@ -148,7 +157,7 @@ fn finished(
 {
     let state = got.state;
     if !got.is_known {
-        return refused(tally, state);
+        return refused(stdout, tally, state);
     }
     let answer = [
         halves(got.refusal as u64, got.delivered as u64),
@@ -163,7 +172,7 @@ fn finished(
     ];
     let numbers = numbers_of(first, state, shadow, output, spectra);
     Turn {
-        tally: compared(tally, line, answer, powers, numbers),
+        tally: compared(stdout, tally, line, answer, powers, numbers),
         state,
     }
 }
@@ -172,32 +181,39 @@ fn flag(is_so: bool) -> u64 {
     if is_so { 1 } else { 0 }
 }
 
-fn refused(tally: Tally, state: TauCanceller) -> Turn {
+fn refused<W: Write>(stdout: &mut W, tally: Tally, state: TauCanceller) -> Turn {
     Turn {
-        tally: cases::refuse(tally),
+        tally: cases::refuse(stdout, tally),
         state,
     }
 }
 
 // One judgement a line, by the first number that differs: of fields 41 to 44, then 46, then of 8 to 38.
-fn compared(tally: Tally, line: &[u8], answer: [u64; 4], powers: u64, got: [u64; 31]) -> Tally
+fn compared<W: Write>(
+    stdout: &mut W,
+    tally: Tally,
+    line: &[u8],
+    answer: [u64; 4],
+    powers: u64,
+    got: [u64; 31],
+) -> Tally
     requires { length line.now ≡ 801 }
 {
     for k in 0..4usize {
         let want = cases::field(line, 41 + k);
         if answer[k] != want {
-            return cases::judge(tally, answer[k], want);
+            return cases::judge(stdout, tally, answer[k], want);
         }
     }
     let kept = cases::field(line, 46);
     if powers != kept {
-        return cases::judge(tally, powers, kept);
+        return cases::judge(stdout, tally, powers, kept);
     }
     for k in 0..31usize {
         let want = cases::field(line, 8 + k);
         if got[k] != want {
-            return cases::judge(tally, got[k], want);
+            return cases::judge(stdout, tally, got[k], want);
         }
     }
-    cases::judge(tally, 0, 0)
+    cases::judge(stdout, tally, 0, 0)
 }
