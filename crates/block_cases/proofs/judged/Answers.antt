@@ -1,0 +1,16 @@
+-- `block_cases::judged` is safe: the parts that it lends are not longer than the buffers. Assumes nothing.
+use native.Mathlib.Omega.{arith}
+use lib.ListN.{length-take}
+use Rattle.block_cases.proofs.judged.Goals as goal
+
+pub slice_bounds-taken-end-2 : goal.slice_bounds-taken-end-2
+slice_bounds-taken-end-2 g c = simp length-take (omega arith)
+
+pub slice_bounds-taken-end-4 : goal.slice_bounds-taken-end-4
+slice_bounds-taken-end-4 g c = simp length-take (omega arith)
+
+pub slice_bounds-taken-end-6 : goal.slice_bounds-taken-end-6
+slice_bounds-taken-end-6 g c = simp length-take (omega arith)
+
+pub slice_bounds-taken-end-8 : goal.slice_bounds-taken-end-8
+slice_bounds-taken-end-8 g c = simp length-take (omega arith)
