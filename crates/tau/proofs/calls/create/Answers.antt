@@ -4,7 +4,6 @@ use borrow.Author.Tests.{eq-eqb, ne_eqb}
 use Rattle.laws.specs.Choice.{pick_yes, pick_no}
 use mathlib.Core.Path.{refl, sym, ◌∙◌}
 use Rattle.tau_fresh.proofs.Accepted.{accepted-settings}
-use borrow.Author.Rules.{rules}
 use Rattle.tau.proofs.calls.create.Goals as goal
 
 pub returns-then-refusal-ne0 : goal.returns-then-refusal-ne0

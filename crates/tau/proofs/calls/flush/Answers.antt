@@ -1,4 +1,3 @@
-use borrow.Author.Rules.{rules}
 use Rattle.tau.proofs.calls.flush.Goals as goal
 
 pub returns : goal.returns

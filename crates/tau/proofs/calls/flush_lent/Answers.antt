@@ -4,7 +4,6 @@ use Rattle.laws.specs.Choice.{pick_yes, pick_no}
 use Rattle.tau.specs.Calls.{flush_of}
 use Rattle.tau_fresh.proofs.Accepted.{accepted-flush}
 use Rattle.tau.proofs.Served.{served-is}
-use borrow.Author.Rules.{rules}
 use Rattle.tau.proofs.calls.flush_lent.Goals as goal
 
 pub returns-then-refusal-ne0 : goal.returns-then-refusal-ne0

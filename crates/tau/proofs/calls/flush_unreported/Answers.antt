@@ -1,4 +1,3 @@
-use borrow.Author.Rules.{rules}
 use Rattle.tau.proofs.calls.flush_unreported.Goals as goal
 
 pub flush_lent-framed-requires : goal.flush_lent-framed-requires

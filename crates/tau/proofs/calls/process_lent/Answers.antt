@@ -9,7 +9,6 @@ use Rattle.tau.specs.Calls.{process_of}
 use Rattle.tau_fresh.proofs.Accepted.{accepted-pairs}
 use Rattle.tau.proofs.Served.{served-is}
 use Rattle.tau.proofs.Served.{served-waits}
-use borrow.Author.Rules.{rules}
 use Rattle.tau.proofs.calls.process_lent.Goals as goal
 
 pub returns-then-refusal-ne0 : goal.returns-then-refusal-ne0
@@ -28,7 +27,7 @@ pub returns-then-start-near-lt256 : goal.returns-then-start-near-lt256
 unfolding process_of
 returns-then-start-near-lt256 c = let z = accepted-pairs _ _ _ _ _ _ _ _ (sym c.requires.refusal_value ∙ c.if-refusal-ne0.false) in
     let u = suppressor_of c.args.echo.now c.args.err.now c.args.gain.now c.args.window.now in
-    let e = engine_of c.args.start c.args.near_carry.now c.args.far_carry.now c.args.far-window.now c.args.means.now u c.args.shadow.now c.args.output.now c.args.spectra.now c.args.powers.now in
+    let e = engine_of c.args.start c.args.near_carry.now c.args.far_carry.now c.args.far_window.now c.args.means.now u c.args.shadow.now c.args.output.now c.args.spectra.now c.args.powers.now in
     rw (c.wait.ensures.value, c.wait.ensures.near_carry_after.0, c.wait.ensures.near_carry_after.1, ← c.requires.refusal_value) (pick_yes _ _ _ (eq-eqb _ _ c.if-refusal-ne0.false)
     (served-waits c.args.refusal e c.args.near.now c.args.far.now c.args.out.now c.if-refusal-ne0.false z.pairs.level (omega (arith, c.if-start-near-lt256.true))))
 
