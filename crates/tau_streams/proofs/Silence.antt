@@ -320,11 +320,11 @@ unfolding calls_of given_of made_by refusal_by
 calls-passed e [] a h g = waits-passes h
 calls-passed e (feed p ∷ cs) a h g =
     let k = process-passed e p.near p.far p.out a.each.0 h g.each.0.gentle.0 g.each.0.gentle.1 in
-    let r = calls-passed _ cs (record { each = a.each.1 }) k.hushed (record { each = g.each.1 }) in
+    let r = calls-passed (made_by e (feed p)).engine cs (record { each = a.each.1 }) k.hushed (record { each = g.each.1 }) in
     subst (λ (l : List Float). Passes e l (calls_of e (feed p ∷ cs)).run) (sym (map-append finite_or_zero p.near (given_of cs))) (joined-passes k r)
 calls-passed e (flush out ∷ cs) a h g =
     let k = emptied-passes (flush-call-passed e out a.each.0 h) in
-    joined-passes k (calls-passed _ cs (record { each = a.each.1 }) k.hushed (record { each = g.each.1 }))
+    joined-passes k (calls-passed (made_by e (flush out)).engine cs (record { each = a.each.1 }) k.hushed (record { each = g.each.1 }))
 calls-passed e (reset ∷ cs) a h g = absurd g.each.0.gentle
 
 -- ---- from creation or reset
