@@ -1,5 +1,4 @@
 -- `capi::aspeyruni_narrow_kind` gives the number of what `narrow_told` tells. Assumes nothing.
-use borrow.Author.Rules.{rules}
 use Rattle.capi.proofs.aspeyruni_narrow_kind.Goals as goal
 
 pub returns : goal.returns

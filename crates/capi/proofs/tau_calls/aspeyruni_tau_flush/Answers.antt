@@ -1,7 +1,6 @@
 -- `capi::tau_calls::aspeyruni_tau_flush` is what `tau::flush_unreported` promises, with its answer as numbers. Assumes nothing.
 use mathlib.Core.Path.{ap}
 use Rattle.capi.specs.Tau.{hosted_of}
-use borrow.Author.Rules.{rules}
 use Rattle.capi.proofs.tau_calls.aspeyruni_tau_flush.Goals as goal
 
 pub returns : goal.returns

@@ -1,6 +1,5 @@
 -- `capi::tau_calls::numbers_of` has the report's numbers: the outcome's and the reason's, the overs and the leak. Assumes nothing.
 use Rattle.tau_state.specs.Report.{report_of}
-use borrow.Author.Rules.{rules}
 use Rattle.capi.proofs.tau_calls.numbers_of.Goals as goal
 
 pub returns : goal.returns
