@@ -145,8 +145,8 @@ class Turner:
         if clauses and clauses.get("fields") and rest[:1] == ["ensures"]:
             rest = ["ensures"] + self.labelled(clauses["fields"], rest[1:])
         params = self.names["params"].get(self.places[at][3])
-        if params and rest[:1] == ["new"] and rest[1:] and rest[1] in "01":
-            rest = ["new"] + self.place_in(params, rest[1:])
+        if params and rest[:1] in (["new"], ["auto"]) and rest[1:] and rest[1] in "01":
+            rest = rest[:1] + self.place_in(params, rest[1:])
         return ["c", self.places[at][2][1]] + rest
 
     @staticmethod
