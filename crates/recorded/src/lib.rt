@@ -138,9 +138,9 @@ fn first_refusal(
 
 // A record of this kind, and one of kind 2 behind it. How many bytes both take up.
 fn put(kind: u32, payload: &[u8], delivered: &[u8], out: &mut [u8]) -> usize
-    requires payload_value { (fits_of kind (length payload.now) ≡ true) × (fits_of 2 (length delivered.now) ≡ true) }
-    requires delivered_in_bounds { length (both_of kind payload.now delivered.now) ≤ length out.old }
-    ensures value { result ≡ length (both_of kind payload.now delivered.now) }
+    requires payloads_fit { (fits_of kind (length payload.now) ≡ true) × (fits_of 2 (length delivered.now) ≡ true) }
+    requires room { length (both_of kind payload.now delivered.now) ≤ length out.old }
+    ensures written { result ≡ length (both_of kind payload.now delivered.now) }
     ensures out_after { out.new ≡ both_of kind payload.now delivered.now ++ drop result out.old }
 {
     let first = record::write(kind, payload, out);
