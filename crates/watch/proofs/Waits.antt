@@ -1,6 +1,6 @@
 -- After every call at most 255 pairs wait, as before it, accepted or refused. So there is room for a pair in each block. Assumes nothing.
 --     created-waits, reset-waits, fed-waits, ended-waits     of each call
-use mathlib.Core.Path.{◌≡◌, refl}
+use mathlib.Core.Path.{refl}
 use mathlib.Core.Bool.{Bool}
 use mathlib.Core.List.{List}
 use Prim.Native.Nat.{ℕ, ◌≤◌}
