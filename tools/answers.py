@@ -240,7 +240,7 @@ class Turner:
                 become[p] = f"l.{n}"
         else:
             for p in params:
-                n = p.strip("₀«»")
+                n = norm(p.strip("₀«»"))
                 if n in names:
                     become[p] = f"l.initial.{n}" if p.endswith("₀") else f"l.{n}"
                 else:
@@ -257,12 +257,13 @@ class Turner:
         lines = [f"abbrev pub {kind}-{new} : goal.{kind}-{new}"]
         if unfolding:
             lines.append(unfolding[0])
-        lines.append(f"{kind}-{new} l = {body.strip()}")
+        lines.append(f"{kind}-{new} {self.given}l = {body.strip()}")
         return "\n".join(lines)
 
-    def turn(self, required, own):
-        """required, own: the labels of the function's requires and of its ensures."""
+    def turn(self, required, own, is_generic=False):
+        """required, own: the labels of the function's requires and of its ensures. A generic function's answers take its bounds first."""
         self.required = required
+        self.given = "g " if is_generic else ""
         head, decls = self.read()
         comments = [l for l in head if l.startswith("--")]
         uses = [l for l in head if l.startswith("use ") and ".Statement." not in l and not l.endswith(".Tie as tie")]
@@ -325,7 +326,7 @@ class Turner:
             term = re.sub(r"not-(?:true|false) (?:c\.[^\s()]+|_) (c\.if-[^\s()]+)", r"\1", term)
             term = re.sub(r"\((c\.if-[^\s()]+)\)", r"\1", term)
             term = self.record(term, own if new.startswith("returns") else self.names["asked"].get(was))
-            answers.append("\n".join([f"pub {new} : goal.{new}"] + ([open_] if open_ else []) + [f"{new} c{more} = {term}"]))
+            answers.append("\n".join([f"pub {new} : goal.{new}"] + ([open_] if open_ else []) + [f"{new} {self.given}c{more} = {term}"]))
         self.write(comments, uses, module, invariants, *self.shared(helpers, invariants), answers)
         return True
 
@@ -408,7 +409,8 @@ def own_labels(crate):
                 rest = text[m.end():]
                 end = re.search(r"^\s*\{\s*$|^\}|\{\s*$", rest, re.M)
                 clauses = rest[:end.start()] if end else rest
-                out.setdefault(m[1], [re.findall(rf"^\s*{kind} (\w+) \{{", clauses, re.M) for kind in ("requires", "ensures")])
+                labels = [re.findall(rf"^\s*{kind} (\w+) \{{", clauses, re.M) for kind in ("requires", "ensures")]
+                out.setdefault(m[1], labels + [rest.startswith("<") and not rest.startswith("<'")])
     return out
 
 
@@ -426,7 +428,7 @@ def main(argv):
         if only and fn not in only or not os.path.exists(os.path.join(folder, "Proof.antt")):
             continue
         try:
-            if Turner(crate, key, it, folder, said).turn(*labels.get(fn, [[], []])):
+            if Turner(crate, key, it, folder, said).turn(*labels.get(fn, [[], [], False])):
                 os.remove(os.path.join(folder, "Proof.antt"))
                 done += 1
         except Exception as e:
