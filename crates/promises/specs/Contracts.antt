@@ -13,7 +13,6 @@ use prog.Routine.{Routine}
 use types.Logic.{Logic}
 use contract.Lifetimes.{Lfts}
 use contract.Monad.{Fun, fact}
-use Rattle.std.specs.Borrow.{Bor}
 use denote.Triple.Entry.{Args, Res}
 use denote.Triple.Clauses.{Ended, Clauses, AtExit}
 use Rattle.numbers.specs.contracts as numbers
@@ -57,11 +56,11 @@ abbrev pub Saying : Ended → Type 1
 Saying T = (κs : Lfts T.signature.lifetimes) → Args T.signature κs → Res T.signature κs → AtExit T κs → Type 0
 
 -- an engine, of its state and what its lent buffers hold
-abbrev pub rho_of : RhoCanceller → Bor (List Float) → Bor (List Float) → rho_sample.Engine
-rho_of s w h = record { state = s; weights = w.now; history = h.now }
+abbrev pub rho_of : RhoCanceller → List Float → List Float → rho_sample.Engine
+rho_of s w h = record { state = s; weights = w; history = h }
 
-abbrev pub tau_of : TauCanceller → Bor (List Float) → Bor (List Float) → Bor (List Float) → Bor (List Float) → Engine
-tau_of s sh ou xs ps = record { state = s; shadow = sh.now; output = ou.now; spectra = xs.now; powers = ps.now }
+abbrev pub tau_of : TauCanceller → List Float → List Float → List Float → List Float → Engine
+tau_of s sh ou xs ps = record { state = s; shadow = sh; output = ou; spectra = xs; powers = ps }
 
 -- in the prover's logic, over any heap, memory and run
 module _ {M : Type 1} {𝓤 : Ura M} (𝓛 : Logic 𝓤) (mem : Memory → SProp 𝓤) (run : Routine → Fun 𝓤) where
@@ -154,10 +153,10 @@ module _ {M : Type 1} {𝓤 : Ura M} (𝓛 : Logic 𝓤) (mem : Memory → SProp
       Says rho.create.ended (rho.create.clauses 𝓛 mem run)
       (λ _ (rate, (tail, (w, (h, _)))) r (_, (_, (w', (h', _)))). rho_promises.Create rate tail w.now h.now r w'.now h'.now)
       × Says rho.process.ended (rho.process.clauses 𝓛 mem run)
-      (λ _ (s, (w, (h, (near, (far, (out, _)))))) r (_, (w', (h', (_, (_, (out', _)))))). rho_promises.Process (rho_of s w h) near.now far.now out.now r w'.now h'.now out'.now)
-      × Says rho.flush.ended (rho.flush.clauses 𝓛 mem run) (λ _ (s, (w, (h, _))) r _. rho_promises.Flush (rho_of s w h) r)
+      (λ _ (s, (w, (h, (near, (far, (out, _)))))) r (_, (w', (h', (_, (_, (out', _)))))). rho_promises.Process (rho_of s w.now h.now) near.now far.now out.now r w'.now h'.now out'.now)
+      × Says rho.flush.ended (rho.flush.clauses 𝓛 mem run) (λ _ (s, (w, (h, _))) r _. rho_promises.Flush (rho_of s w.now h.now) r)
       × Says rho.reset.ended (rho.reset.clauses 𝓛 mem run)
-      (λ _ (s, (w, (h, _))) r (_, (w', (h', _))). rho_promises.Reset (rho_of s w h) r w'.now h'.now)
+      (λ _ (s, (w, (h, _))) r (_, (w', (h', _))). rho_promises.Reset (rho_of s w.now h.now) r w'.now h'.now)
 
   -- TauCanceller: sh is the shadow, ou the output, xs the spectra and ps their powers
   abbrev pub Tau : Type 2
@@ -165,11 +164,11 @@ module _ {M : Type 1} {𝓤 : Ura M} (𝓛 : Logic 𝓤) (mem : Memory → SProp
       Says tau.create.ended (tau.create.clauses 𝓛 mem run)
       (λ _ (parts, (flag, (sh, (ou, (xs, (ps, _)))))) r (_, (_, (sh', (ou', (xs', (ps', _)))))). tau_promises.Create parts flag sh.now ou.now xs.now ps.now r sh'.now ou'.now xs'.now ps'.now)
       × Says tau.process.ended (tau.process.clauses 𝓛 mem run)
-      (λ _ (s, (sh, (ou, (xs, (ps, (near, (far, (out, _)))))))) r (_, (sh', (ou', (xs', (ps', (_, (_, (out', _)))))))). tau_promises.Process (tau_of s sh ou xs ps) near.now far.now out.now r sh'.now ou'.now xs'.now ps'.now out'.now)
+      (λ _ (s, (sh, (ou, (xs, (ps, (near, (far, (out, _)))))))) r (_, (sh', (ou', (xs', (ps', (_, (_, (out', _)))))))). tau_promises.Process (tau_of s sh.now ou.now xs.now ps.now) near.now far.now out.now r sh'.now ou'.now xs'.now ps'.now out'.now)
       × Says tau.flush.ended (tau.flush.clauses 𝓛 mem run)
-      (λ _ (s, (sh, (ou, (xs, (ps, (out, _)))))) r (_, (sh', (ou', (xs', (ps', (out', _)))))). tau_promises.Flush (tau_of s sh ou xs ps) out.now r sh'.now ou'.now xs'.now ps'.now out'.now)
+      (λ _ (s, (sh, (ou, (xs, (ps, (out, _)))))) r (_, (sh', (ou', (xs', (ps', (out', _)))))). tau_promises.Flush (tau_of s sh.now ou.now xs.now ps.now) out.now r sh'.now ou'.now xs'.now ps'.now out'.now)
       × Says tau.reset.ended (tau.reset.clauses 𝓛 mem run)
-      (λ _ (s, (sh, (ou, (xs, (ps, _))))) r (_, (sh', (ou', (xs', (ps', _))))). tau_promises.Reset (tau_of s sh ou xs ps) r sh'.now ou'.now xs'.now ps'.now)
+      (λ _ (s, (sh, (ou, (xs, (ps, _))))) r (_, (sh', (ou', (xs', (ps', _))))). tau_promises.Reset (tau_of s sh.now ou.now xs.now ps.now) r sh'.now ou'.now xs'.now ps'.now)
 
   -- capi
   abbrev pub Hosts : Type 2
@@ -188,9 +187,9 @@ module _ {M : Type 1} {𝓤 : Ura M} (𝓛 : Logic 𝓤) (mem : Memory → SProp
       × (capi.aspeyruni_rho_reset.clauses 𝓛 mem run ≡ rho.reset.clauses 𝓛 mem run)
       × (capi.aspeyruni_tau_create.clauses 𝓛 mem run ≡ tau.create.clauses 𝓛 mem run)
       × Says capi.aspeyruni_tau_process.ended (capi.aspeyruni_tau_process.clauses 𝓛 mem run)
-      (λ _ (s, (sh, (ou, (xs, (ps, (near, (far, (out, _)))))))) r (_, (sh', (ou', (xs', (ps', (_, (_, (out', _)))))))). TauProcess (tau_of s sh ou xs ps) near.now far.now out.now r sh'.now ou'.now xs'.now ps'.now out'.now)
+      (λ _ (s, (sh, (ou, (xs, (ps, (near, (far, (out, _)))))))) r (_, (sh', (ou', (xs', (ps', (_, (_, (out', _)))))))). TauProcess (tau_of s sh.now ou.now xs.now ps.now) near.now far.now out.now r sh'.now ou'.now xs'.now ps'.now out'.now)
       × Says capi.aspeyruni_tau_flush.ended (capi.aspeyruni_tau_flush.clauses 𝓛 mem run)
-      (λ _ (s, (sh, (ou, (xs, (ps, (out, _)))))) r (_, (sh', (ou', (xs', (ps', (out', _)))))). TauFlush (tau_of s sh ou xs ps) out.now r sh'.now ou'.now xs'.now ps'.now out'.now)
+      (λ _ (s, (sh, (ou, (xs, (ps, (out, _)))))) r (_, (sh', (ou', (xs', (ps', (out', _)))))). TauFlush (tau_of s sh.now ou.now xs.now ps.now) out.now r sh'.now ou'.now xs'.now ps'.now out'.now)
       × (capi.aspeyruni_tau_reset.clauses 𝓛 mem run ≡ tau.reset.clauses 𝓛 mem run)
       × Says capi.aspeyruni_record_read.ended (capi.aspeyruni_record_read.clauses 𝓛 mem run) (λ _ (bytes, _) r _. RecordRead bytes.now r)
       × (capi.aspeyruni_record_write.clauses 𝓛 mem run ≡ records.write.clauses 𝓛 mem run)
@@ -208,9 +207,9 @@ module _ {M : Type 1} {𝓤 : Ura M} (𝓛 : Logic 𝓤) (mem : Memory → SProp
       × Says wire.write_samples.ended (wire.write_samples.clauses 𝓛 mem run)
       (λ _ (samples, (bytes, _)) r (_, (bytes', _)). WriteSamples samples.now bytes.now bytes'.now)
       × Says capture.feed.ended (capture.feed.clauses 𝓛 mem run)
-      (λ _ (s, (sh, (ou, (xs, (ps, (held, (bytes, _))))))) r (_, (sh', (ou', (xs', (ps', (_, (bytes', _))))))). Feed (tau_of s sh ou xs ps) held.now bytes.now r sh'.now ou'.now xs'.now ps'.now bytes'.now)
+      (λ _ (s, (sh, (ou, (xs, (ps, (held, (bytes, _))))))) r (_, (sh', (ou', (xs', (ps', (_, (bytes', _))))))). Feed (tau_of s sh.now ou.now xs.now ps.now) held.now bytes.now r sh'.now ou'.now xs'.now ps'.now bytes'.now)
       × Says capture.finish.ended (capture.finish.clauses 𝓛 mem run)
-      (λ _ (s, (sh, (ou, (xs, (ps, (bytes, _)))))) r (_, (sh', (ou', (xs', (ps', (bytes', _)))))). Finish (tau_of s sh ou xs ps) bytes.now r sh'.now ou'.now xs'.now ps'.now bytes'.now)
+      (λ _ (s, (sh, (ou, (xs, (ps, (bytes, _)))))) r (_, (sh', (ou', (xs', (ps', (bytes', _)))))). Finish (tau_of s sh.now ou.now xs.now ps.now) bytes.now r sh'.now ou'.now xs'.now ps'.now bytes'.now)
 
   -- record, of which the payload is a part of the bytes; recorded
   abbrev pub Records : Type 2
@@ -220,9 +219,9 @@ module _ {M : Type 1} {𝓤 : Ura M} (𝓛 : Logic 𝓤) (mem : Memory → SProp
       × Says records.write.ended (records.write.clauses 𝓛 mem run)
       (λ _ (kind, (payload, (out, _))) r (_, (_, (out', _))). Write kind payload.now out.now r out'.now)
       × Says recorded.feed.ended (recorded.feed.clauses 𝓛 mem run)
-      (λ _ (s, (sh, (ou, (xs, (ps, (pairs, (out, _))))))) r (_, (sh', (ou', (xs', (ps', (_, (out', _))))))). recorded_promises.Feed (tau_of s sh ou xs ps) pairs.now out.now r sh'.now ou'.now xs'.now ps'.now out'.now)
+      (λ _ (s, (sh, (ou, (xs, (ps, (pairs, (out, _))))))) r (_, (sh', (ou', (xs', (ps', (_, (out', _))))))). recorded_promises.Feed (tau_of s sh.now ou.now xs.now ps.now) pairs.now out.now r sh'.now ou'.now xs'.now ps'.now out'.now)
       × Says recorded.finish.ended (recorded.finish.clauses 𝓛 mem run)
-      (λ _ (s, (sh, (ou, (xs, (ps, (out, _)))))) r (_, (sh', (ou', (xs', (ps', (out', _)))))). recorded_promises.Finish (tau_of s sh ou xs ps) out.now r sh'.now ou'.now xs'.now ps'.now out'.now)
+      (λ _ (s, (sh, (ou, (xs, (ps, (out, _)))))) r (_, (sh', (ou', (xs', (ps', (out', _)))))). recorded_promises.Finish (tau_of s sh.now ou.now xs.now ps.now) out.now r sh'.now ou'.now xs'.now ps'.now out'.now)
 
   -- the release list
   abbrev pub Lists : Type 2

@@ -17,7 +17,6 @@ use Rattle.rho_streams.specs.Stream as rho_stream
 use Rattle.tau_steps.specs.Bounds.{Leak}
 use Rattle.tau_paths.specs.Paths.{counted}
 use Rattle.tau_state.specs.Report.{outcome_of, report_of}
-use Rattle.tau_state.specs.declared.state.TauCanceller.{TauCanceller}
 use Rattle.tau_state.specs.declared.report.Outcome.TheVariants.{NotRun, Move}
 use Rattle.tau_block.specs.Block.{Block, run_block}
 use Rattle.tau_block_laws.specs.Resets.{clears_of, how_many, more_by, ShadowClears, OutputClears, UpdateClears, GuardClears}
