@@ -27,6 +27,8 @@ pub struct TauAnswer {
     pub leak: f64,
 }
 
+// Inlined, and the two that call it, as every copy of an answer takes 14 KB of the host's stack.
+#[inline(always)]
 fn numbers_of(a: Unreported) -> TauAnswer
     ensures { result ≡ numbers_of (reported_of a) }
 {
@@ -63,6 +65,7 @@ pub fn aspeyruni_tau_create(
     tau::create(partitions, suppress, shadow, output, spectra, powers)
 }
 
+#[inline(always)]
 pub fn aspeyruni_tau_process(
     s: TauCanceller,
     shadow: &mut [f64],
@@ -78,6 +81,7 @@ pub fn aspeyruni_tau_process(
     numbers_of(tau::process_unreported(s, shadow, output, spectra, powers, near, far, out))
 }
 
+#[inline(always)]
 pub fn aspeyruni_tau_flush(
     s: TauCanceller,
     shadow: &mut [f64],
