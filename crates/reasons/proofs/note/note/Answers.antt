@@ -30,16 +30,13 @@ ended c {n} {x = x} {y = y} {b = b} {t = t} e l o h =
 
 pub returns-then-number-eq0 : goal.returns-then-number-eq0
 unfolding course_after counts_after
-returns-then-number-eq0 c = record {
-  end_bound = let n = number_in c.args.last in
-      let none : n ≡ 0 = sym (c.reason_number-number.ensures ∙ ap reason_number c.reason_of-reason.ensures) ∙ c.if-number-eq0.true in search rules;
-  ends = let n = number_in c.args.last in
-      let none : n ≡ 0 = sym (c.reason_number-number.ensures ∙ ap reason_number c.reason_of-reason.ensures) ∙ c.if-number-eq0.true in record { none = λ k. refl; some = λ k. absurd (omega (arith, none, k)) };
-  course_value = let n = number_in c.args.last in
-      let none : n ≡ 0 = sym (c.reason_number-number.ensures ∙ ap reason_number c.reason_of-reason.ensures) ∙ c.if-number-eq0.true in pick_yes _ _ _ (eq-eqb n 0 none) refl;
-  counts_after = let n = number_in c.args.last in
-      let none : n ≡ 0 = sym (c.reason_number-number.ensures ∙ ap reason_number c.reason_of-reason.ensures) ∙ c.if-number-eq0.true in pick_yes _ _ _ (eq-eqb n 0 none) refl;
-}
+returns-then-number-eq0 c =
+    let none : number_in c.args.last ≡ 0 = sym (c.reason_number-number.ensures ∙ ap reason_number c.reason_of-reason.ensures) ∙ c.if-number-eq0.true in record {
+      end_bound = search rules;
+      ends = record { none = λ k. refl; some = λ k. absurd (omega (arith, none, k)) };
+      course_value = pick_yes _ _ _ (eq-eqb (number_in c.args.last) 0 none) refl;
+      counts_after = pick_yes _ _ _ (eq-eqb (number_in c.args.last) 0 none) refl;
+    }
 
 pub count_block-requires : goal.count_block-requires
 unfolding course_after counts_after
@@ -50,21 +47,12 @@ count_block-requires c = record {
 
 pub returns : goal.returns
 unfolding course_after counts_after
-returns c = record {
-  end_bound = let e : c.reason_number-number.result ≡ number_in c.args.last = c.reason_number-number.ensures ∙ ap reason_number c.reason_of-reason.ensures in
-      let l : c.leak_of-leak.result ≡ leak_with c.args.last = c.leak_of-leak.ensures ∙ ap leak_in (c.outcome_of.ensures ∙ ap outcome_of c.reason_of-reason.ensures) in
-      let n = number_in c.args.last in
-      let some : n ≡ 0 → ⊥ = λ k. c.if-number-eq0.false (e ∙ k) in c.put_ended.ensures.upper_bound;
-  ends = let e : c.reason_number-number.result ≡ number_in c.args.last = c.reason_number-number.ensures ∙ ap reason_number c.reason_of-reason.ensures in
-      let l : c.leak_of-leak.result ≡ leak_with c.args.last = c.leak_of-leak.ensures ∙ ap leak_in (c.outcome_of.ensures ∙ ap outcome_of c.reason_of-reason.ensures) in
-      let n = number_in c.args.last in
-      let some : n ≡ 0 → ⊥ = λ k. c.if-number-eq0.false (e ∙ k) in record { none = λ k. absurd (some k); some = λ k. ended c.args.c e l c.overs_of-overs.ensures c.put_ended.ensures.ended };
-  course_value = let e : c.reason_number-number.result ≡ number_in c.args.last = c.reason_number-number.ensures ∙ ap reason_number c.reason_of-reason.ensures in
-      let l : c.leak_of-leak.result ≡ leak_with c.args.last = c.leak_of-leak.ensures ∙ ap leak_in (c.outcome_of.ensures ∙ ap outcome_of c.reason_of-reason.ensures) in
-      let n = number_in c.args.last in
-      let some : n ≡ 0 → ⊥ = λ k. c.if-number-eq0.false (e ∙ k) in pick_no _ _ _ (ne_eqb n 0 some) (c.after.ensures ∙ (λ i. after_of c.args.c (e i) (l i) (c.overs_of-overs.ensures i)));
-  counts_after = let e : c.reason_number-number.result ≡ number_in c.args.last = c.reason_number-number.ensures ∙ ap reason_number c.reason_of-reason.ensures in
-      let l : c.leak_of-leak.result ≡ leak_with c.args.last = c.leak_of-leak.ensures ∙ ap leak_in (c.outcome_of.ensures ∙ ap outcome_of c.reason_of-reason.ensures) in
-      let n = number_in c.args.last in
-      let some : n ≡ 0 → ⊥ = λ k. c.if-number-eq0.false (e ∙ k) in pick_no _ _ _ (ne_eqb n 0 some) (c.count_block.ensures ∙ (λ i. block_counted (e i) (c.overs_of-overs.ensures i) c.args.counts.now));
-}
+returns c =
+    let e : c.reason_number-number.result ≡ number_in c.args.last = c.reason_number-number.ensures ∙ ap reason_number c.reason_of-reason.ensures in
+    let l : c.leak_of-leak.result ≡ leak_with c.args.last = c.leak_of-leak.ensures ∙ ap leak_in (c.outcome_of.ensures ∙ ap outcome_of c.reason_of-reason.ensures) in
+    let some : number_in c.args.last ≡ 0 → ⊥ = λ k. c.if-number-eq0.false (e ∙ k) in record {
+      end_bound = c.put_ended.ensures.upper_bound;
+      ends = record { none = λ k. absurd (some k); some = λ k. ended c.args.c e l c.overs_of-overs.ensures c.put_ended.ensures.ended };
+      course_value = pick_no _ _ _ (ne_eqb (number_in c.args.last) 0 some) (c.after.ensures ∙ (λ i. after_of c.args.c (e i) (l i) (c.overs_of-overs.ensures i)));
+      counts_after = pick_no _ _ _ (ne_eqb (number_in c.args.last) 0 some) (c.count_block.ensures ∙ (λ i. block_counted (e i) (c.overs_of-overs.ensures i) c.args.counts.now));
+    }
