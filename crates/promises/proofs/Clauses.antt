@@ -26,7 +26,7 @@ use Rattle.promises.specs.Clauses.{Narrowing, Extremes, Products, Rounds, Entrie
 
 -- ---- numbers
 
-nan-bits : to_bits binary32 (narrow_of nan) ≡ 0x7_fc0_0000
+nan-bits : to_bits binary32 (narrow_of nan) ≡ 0x7fc0_0000
 unfolding narrow_of to_bits
 nan-bits = refl
 

@@ -30,7 +30,7 @@ abbrev pub Narrowing : Type 0
 Narrowing =
     ((s : Bool) (m : ℕ) (e : ℤ) → (2 ^ 128 - 2 ^ 103) * down e ≤ m * up e → narrow_of (fin s m e) ≡ inf s)
     × ((s : Bool) (m : ℕ) (e : ℤ) → m * up e * 2 ^ 150 ≤ down e → narrow_of (fin s m e) ≡ fin s 0 (pos 0))
-    × (to_bits binary32 (narrow_of nan) ≡ 0x7_fc0_0000)
+    × (to_bits binary32 (narrow_of nan) ≡ 0x7fc0_0000)
     × ((x : Float) → T (fits binary32 x) → narrow_of x ≡ x)
 
 -- "Minimum and maximum with one NaN give the other operand; a clamped NaN stays NaN."

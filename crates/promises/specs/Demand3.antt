@@ -103,7 +103,7 @@ TauSinger = (e : Engine) (cs : List Call) → Begins e → All Gentle (taken_of 
 -- "near 1.0, -0.0, NaN with far 0.0 three times", in one process, and a flush: 1.0, -0.0, 0.0
 abbrev pub TauThree : Type 0
 TauThree = (e : Engine) (p : Part) (out : List Float) →
-    let one = of_bits binary32 0x3_f80_0000 in
+    let one = of_bits binary32 0x3f80_0000 in
     let minus = of_bits binary32 0x8000_0000 in
     let zero = of_bits binary32 0 in
     Begins e → p.near ≡ one ∷ minus ∷ nan ∷ [] → p.far ≡ zero ∷ zero ∷ zero ∷ []

@@ -379,7 +379,7 @@ singer e cs out b a g =
 
 -- As of three pairs, near 1.0, -0.0, NaN and far 0.0 each, and a flush: 1.0, -0.0, 0.0.
 abbrev pub one32 : Float
-one32 = of_bits binary32 0x3_f80_0000
+one32 = of_bits binary32 0x3f80_0000
 
 three-fit : All Fits (one32 ∷ minus ∷ nan ∷ [])
 unfolding of_bits fits
