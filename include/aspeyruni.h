@@ -14,7 +14,7 @@
  * - Threads. An engine is its state and its lent buffers, and the library has no other memory. So calls of different engines may run at
  *   once; two calls on one engine may not.
  * - Stack. A call of Tau takes up to 80,700 bytes (measured on x86-64), of which 15 KB are the state that goes in; any other call takes up
- *   to 13 KB. A thread needs 80 KB to spare for Tau, and 16 KB for the rest.
+ *   to 13 KB. A thread needs 96 KB to spare for Tau, and 16 KB for the rest.
  *
  * Samples: `near_end` is what the microphone hears, `far_end` what the loudspeaker plays at the same time; the same places of both are a
  * pair. A sample that is not finite is read as 0.0. Full scale is 1.0: in both engines a far end of an RMS below about 0.001 is learnt
