@@ -3,10 +3,52 @@
 
 ghost use Rattle.complex.specs.Promises.{New, Conj, Add, Sub, Mul, Scale};
 
-#[derive(Clone, Copy)]
+use std::ops;
+
+#[derive(Debug, Clone, Copy, PartialEq)]
 pub struct Complex {
     pub re: f64,
     pub im: f64,
+}
+
+impl ops::Add for Complex {
+    type Output = Complex;
+
+    ghost add_gives = { Add };
+
+    fn add(self, other: Complex) -> Complex {
+        Complex {
+            re: self.re + other.re,
+            im: self.im + other.im,
+        }
+    }
+}
+
+impl ops::Sub for Complex {
+    type Output = Complex;
+
+    ghost sub_gives = { Sub };
+
+    fn sub(self, other: Complex) -> Complex {
+        Complex {
+            re: self.re - other.re,
+            im: self.im - other.im,
+        }
+    }
+}
+
+impl ops::Mul for Complex {
+    type Output = Complex;
+
+    ghost mul_gives = { Mul };
+
+    // Two products a part, so that nothing can be fused.
+    fn mul(self, other: Complex) -> Complex {
+        Complex {
+            re: self.re * other.re - self.im * other.im,
+            im: self.re * other.im + self.im * other.re,
+        }
+    }
 }
 
 impl Complex {
@@ -30,29 +72,19 @@ impl Complex {
     pub fn add(self, other: Complex) -> Complex
         ensures { Add self other result }
     {
-        Complex {
-            re: self.re + other.re,
-            im: self.im + other.im,
-        }
+        self + other
     }
 
     pub fn sub(self, other: Complex) -> Complex
         ensures { Sub self other result }
     {
-        Complex {
-            re: self.re - other.re,
-            im: self.im - other.im,
-        }
+        self - other
     }
 
-    // Two products a part, so that nothing can be fused.
     pub fn mul(self, other: Complex) -> Complex
         ensures { Mul self other result }
     {
-        Complex {
-            re: self.re * other.re - self.im * other.im,
-            im: self.re * other.im + self.im * other.re,
-        }
+        self * other
     }
 
     pub fn scale(self, factor: f64) -> Complex
