@@ -1,15 +1,15 @@
--- The key of a line, token by token. Assumes nothing.
-use mathlib.Core.Path.{◌≡◌, refl, sym, ap, ap₂, ◌∙◌}
-use mathlib.Core.Bool.{Bool, true, false, ◌&&◌, true≢false, false≢true}
-use mathlib.Core.List.{List, [], ◌∷◌, ◌++◌}
-use Prim.Native.Nat.{ℕ, ◌≤◌, ◌<◌}
-use native.Mathlib.Omega.{arith}
-use borrow.Author.Tests.{leb-true, le-leb, lt-ltb, le-ltb}
-use lib.Dec.{leb, ltb, eqb}
-use lib.ListN.{length, take, drop}
+-- The key of a line, place by place. Assumes nothing.
+use Rattle.std.proofs.Common.{◌≡◌, ℕ, ◌≤◌, ◌<◌, Bool, true, false, ◌&&◌, List, [], ◌∷◌, ◌++◌, refl, sym, ap, ◌∙◌, arith, Ordering, Less, Greater, leb, length, take, drop}
+use mathlib.Core.Path.{ap₂}
+use mathlib.Core.Bool.{true≢false, false≢true}
+use borrow.Author.Tests.{leb-true, le-leb}
+use Rattle.std.specs.Char.{is_ascii_digit}
+use Rattle.std.specs.Cmp.Lexicographic.{slice_cmp}
+use Rattle.std.specs.List.{prefix_len}
+use Rattle.std.specs.Ordering.{nat_cmp, ordering_then}
 use Rattle.laws.specs.Choice.{pick, both}
-use Rattle.line_order.specs.Order.{is_digit, run, spelled, key_from, key, earlier}
-use Rattle.line_order.proofs.Earlier.{by-test, by_order, by_heads, heads-same, heads-differ, first_ends, second-ends}
+use Rattle.line_order.specs.Order.{is_digit, run, spelled, key_from, key}
+use Rattle.line_order.proofs.Compared.{by-test, by_order, less-is, same-is, more-is}
 
 neither : (a b : Bool) → (a && b) ≡ false → a ≡ true → b ≡ false
 neither true b e h = e
@@ -42,6 +42,12 @@ unfolding run
 run_take [] = refl
 run_take (d ∷ s) =
     by-test (is_digit d) (λ e. rw (run_in d s e) (ap (λ (l : List ℕ). d ∷ l) (run_take s))) (λ e. rw (run_out d s e))
+
+-- the run is as long as std counts it
+pub run-length : (s : List ℕ) → length (run s) ≡ prefix_len is_ascii_digit s
+unfolding run is_digit
+run-length [] = refl
+run-length (d ∷ s) = by-test (is_digit d) (λ e. rw (run_in d s e, run-length s, e) (omega arith)) (λ e. rw (run_out d s e, e) refl)
 
 pub run-run : (s : List ℕ) → run (run s) ≡ run s
 unfolding run
@@ -91,73 +97,71 @@ unfolding is_digit
 other-range b e h k = true≢false (sym (ap₂ ◌&&◌ (le-leb 48 b h) (le-leb b 57 k)) ∙ e)
 
 -- a digit stands among the other bytes where 48 does
-digit-first : (x y : ℕ) → is_digit x ≡ true → is_digit y ≡ false → ltb 48 y ≡ ltb x y
+digit-first : (x y : ℕ) → is_digit x ≡ true → is_digit y ≡ false → nat_cmp 48 y ≡ nat_cmp x y
 digit-first x y e f =
     let r = digit-range x e in
-    by_order x y (λ l. lt-ltb 48 y (omega arith) ∙ sym (lt-ltb x y l)) (λ l. absurd (other-range y f (omega arith) (omega arith)))
-    (λ l. le-ltb 48 y (under (other-range y f) l r.1) ∙ sym (le-ltb x y (omega arith)))
+    by_order x y (λ l. less-is 48 y (omega arith) ∙ sym (less-is x y l)) (λ l. absurd (other-range y f (omega arith) (omega arith)))
+    (λ l. more-is 48 y (under (other-range y f) l r.1) ∙ sym (more-is x y l))
   where
-    under : (48 ≤ y → y ≤ 57 → ⊥) → y < x → x ≤ 57 → y ≤ 48
-    under n l k = by_order 48 y (λ h. absurd (n (omega arith) (omega arith))) (λ h. omega arith) (λ h. omega arith)
+    under : (48 ≤ y → y ≤ 57 → ⊥) → y < x → x ≤ 57 → y < 48
+    under n l k = by_order 48 y (λ h. absurd (n (omega arith) (omega arith))) (λ h. absurd (n (omega arith) (omega arith))) (λ h. h)
 
-digit-second : (x y : ℕ) → is_digit x ≡ false → is_digit y ≡ true → ltb x 48 ≡ ltb x y
+digit-second : (x y : ℕ) → is_digit x ≡ false → is_digit y ≡ true → nat_cmp x 48 ≡ nat_cmp x y
 digit-second x y e f =
     let r = digit-range y f in
-    by_order x y (λ l. lt-ltb x 48 (under (other-range x e) l r.1) ∙ sym (lt-ltb x y l)) (λ l. absurd (other-range x e (omega arith) (omega arith)))
-    (λ l. le-ltb x 48 (omega arith) ∙ sym (le-ltb x y (omega arith)))
+    by_order x y (λ l. less-is x 48 (under (other-range x e) l r.1) ∙ sym (less-is x y l)) (λ l. absurd (other-range x e (omega arith) (omega arith)))
+    (λ l. more-is x 48 (omega arith) ∙ sym (more-is x y l))
   where
     under : (48 ≤ x → x ≤ 57 → ⊥) → x < y → y ≤ 57 → x < 48
     under n l k = by_order x 48 (λ h. h) (λ h. absurd (n (omega arith) (omega arith))) (λ h. absurd (n (omega arith) (omega arith)))
 
-module _ (tie : Bool) (x y : ℕ) (s t : List ℕ) where
+then-differ : (x y : ℕ) (o : Ordering) → (x ≡ y → ⊥) → ordering_then (nat_cmp x y) o ≡ nat_cmp x y
+then-differ x y o n = by_order x y (λ h. rw (less-is x y h) refl) (λ h. absurd (n h)) (λ h. rw (more-is x y h) refl)
+
+module _ (x y : ℕ) (s t : List ℕ) where
   -- two numbers
   pub numbers-meet : (is_digit x && is_digit y) ≡ true
-      → earlier tie (key (x ∷ s)) (key (y ∷ t))
-      ≡ pick (eqb (spelled (run (x ∷ s))) (spelled (run (y ∷ t))))
-      (earlier tie (key (drop (length (run (x ∷ s))) (x ∷ s))) (key (drop (length (run (y ∷ t))) (y ∷ t))))
-      (ltb (spelled (run (x ∷ s))) (spelled (run (y ∷ t))))
+      → slice_cmp nat_cmp (key (x ∷ s)) (key (y ∷ t))
+      ≡ ordering_then (nat_cmp (spelled (run (x ∷ s))) (spelled (run (y ∷ t))))
+      (slice_cmp nat_cmp (key (drop (length (run (x ∷ s))) (x ∷ s))) (key (drop (length (run (y ∷ t))) (y ∷ t))))
   numbers-meet e =
       let h = both (is_digit x) (is_digit y) e in
-      rw (key-run x s h.0, key-run y t h.1) (heads-same tie 48 48 _ _ refl ∙ by_heads tie _ _ _ _)
+      rw (key-run x s h.0, key-run y t h.1) refl
 
   -- two bytes of which one at least is no digit
-  pub bytes_same : (is_digit x && is_digit y) ≡ false → x ≡ y → earlier tie (key (x ∷ s)) (key (y ∷ t)) ≡ earlier tie (key s) (key t)
+  pub bytes_same : (is_digit x && is_digit y) ≡ false → x ≡ y → slice_cmp nat_cmp (key (x ∷ s)) (key (y ∷ t)) ≡ slice_cmp nat_cmp (key s) (key t)
   unfolding key
   bytes_same e h =
       let f : is_digit y ≡ false = by-test (is_digit x) (neither (is_digit x) (is_digit y) e) (λ k. ap is_digit (sym h) ∙ k) in
       let g : is_digit x ≡ false = ap is_digit h ∙ f in
-      rw (key-byte false x s g, key-byte false y t f) (heads-same tie x y _ _ h)
+      rw (key-byte false x s g, key-byte false y t f, same-is x y h) refl
 
-  pub bytes-differ : (is_digit x && is_digit y) ≡ false → (x ≡ y → ⊥) → earlier tie (key (x ∷ s)) (key (y ∷ t)) ≡ ltb x y
+  pub bytes-differ : (is_digit x && is_digit y) ≡ false → (x ≡ y → ⊥) → slice_cmp nat_cmp (key (x ∷ s)) (key (y ∷ t)) ≡ nat_cmp x y
   unfolding key
   bytes-differ e n =
       by-test (is_digit x)
       (λ d.
       let f = neither (is_digit x) (is_digit y) e d in
-      rw (key-first x s d, key-byte false y t f) (heads-differ tie 48 y _ _ (λ h. other-range y f (omega arith) (omega arith)) ∙ digit-first x y d f))
+      rw (key-first x s d, key-byte false y t f) (then-differ 48 y _ (λ h. other-range y f (omega arith) (omega arith)) ∙ digit-first x y d f))
       (λ d.
       by-test (is_digit y)
-      (λ f. rw (key-byte false x s d, key-first y t f) (heads-differ tie x 48 _ _ (λ h. other-range x d (omega arith) (omega arith)) ∙ digit-second x y d f))
-      (λ f. rw (key-byte false x s d, key-byte false y t f) (heads-differ tie x y _ _ n)))
+      (λ f. rw (key-byte false x s d, key-first y t f) (then-differ x 48 _ (λ h. other-range x d (omega arith) (omega arith)) ∙ digit-second x y d f))
+      (λ f. rw (key-byte false x s d, key-byte false y t f) (then-differ x y _ n)))
 
 -- ---- a line that ends
 
-key-none : key [] ≡ []
+pub key-none : key [] ≡ []
 unfolding key
 key-none = from-none false
 
-module _ (tie : Bool) (x : ℕ) (s : List ℕ) where
-  pub key-first-ends : earlier tie (key []) (key (x ∷ s)) ≡ true
+module _ (x : ℕ) (s : List ℕ) where
+  pub key-first-ends : slice_cmp nat_cmp (key []) (key (x ∷ s)) ≡ Less
   unfolding key
-  key-first-ends =
-      rw key-none
-      (by-test (is_digit x) (λ d. rw (key-first x s d) (first_ends tie _ _)) (λ d. rw (key-byte false x s d) (first_ends tie _ _)))
+  key-first-ends = rw key-none (by-test (is_digit x) (λ d. rw (key-first x s d) refl) (λ d. rw (key-byte false x s d) refl))
 
-  pub key-second-ends : earlier tie (key (x ∷ s)) (key []) ≡ false
+  pub key-second-ends : slice_cmp nat_cmp (key (x ∷ s)) (key []) ≡ Greater
   unfolding key
-  key-second-ends =
-      rw key-none
-      (by-test (is_digit x) (λ d. rw (key-first x s d) (second-ends tie _ _)) (λ d. rw (key-byte false x s d) (second-ends tie _ _)))
+  key-second-ends = rw key-none (by-test (is_digit x) (λ d. rw (key-first x s d) refl) (λ d. rw (key-byte false x s d) refl))
 
 -- ---- a byte that is no digit parts a line: the key behind it is the key of what follows
 

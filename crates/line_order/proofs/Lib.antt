@@ -1,7 +1,5 @@
-pub mod Earlier
+pub mod Compared
 pub mod Keys
 pub mod Numbers
 pub mod Order
-pub mod Turns
-pub mod Verdicts
 pub mod Walk

@@ -1,17 +1,17 @@
 -- The numbers that digits spell: zeros that lead do not count, a longer number is greater, and of two that are as long the first digit
 -- that differs decides. `run x ≡ x` says that x is digits only. Assumes nothing.
-use mathlib.Core.Path.{◌≡◌, refl, sym, ◌∙◌}
-use mathlib.Core.Bool.{Bool, true, false}
-use mathlib.Core.List.{List, [], ◌∷◌, foldl}
-use Prim.Native.Nat.{ℕ, zero, suc, ◌≤◌, ◌<◌}
+use Rattle.std.proofs.Common.{◌≡◌, ℕ, ◌≤◌, ◌<◌, ◌==◌, true, List, [], ◌∷◌, refl, sym, ◌∙◌, ◌-◌, arith, add_comm, add-one, Ordering, Less, Greater, eqb, length, take, drop}
+use mathlib.Core.List.{foldl}
+use Prim.Native.Nat.{zero, suc}
 use native.Mathlib.Nat.{suc_inj}
-use native.Mathlib.Omega.{arith}
-use borrow.Author.Tests.{eqb-true, eqb-false, lt-ltb, le-ltb, eq-eqb, ne_eqb}
-use lib.Dec.{eqb, ltb}
-use lib.ListN.{length, get_or, drop}
-use Rattle.laws.specs.Choice.{pick}
-use Rattle.line_order.specs.Order.{is_digit, run, with_digit, spelled, earlier}
-use Rattle.line_order.proofs.Earlier.{by-test, by_order, heads-same, head-less, head_more, earlier-self}
+use borrow.Author.Tests.{eqb-true, eqb-false, eq-eqb, ne_eqb}
+use lib.ListN.{get_or, length-drop}
+use lib.Seq.{take_all}
+use Rattle.std.specs.Cmp.Lexicographic.{slice_cmp}
+use Rattle.std.specs.List.{prefix_len}
+use Rattle.std.specs.Ordering.{nat_cmp, ordering_then, MatchOrdering}
+use Rattle.line_order.specs.Order.{is_digit, run, with_digit, spelled}
+use Rattle.line_order.proofs.Compared.{by-test, by_order, less-is, same-is, more-is, then_with-is}
 use Rattle.line_order.proofs.Keys.{digit-range, run_in, run_out}
 
 -- ---- digits only
@@ -76,41 +76,73 @@ longer-more x (e ∷ y) g f l n = longer-behind (with_digit 0 e) x y g (some-dig
 
 -- ---- as many digits
 
-module _ (tie : Bool) (m n : ℕ) where
-  pub numbers-less : m < n → pick (eqb m n) tie (ltb m n) ≡ true
-  unfolding pick
-  numbers-less h = rw (ne_eqb m n (λ e. omega arith)) (lt-ltb m n h)
-
-  pub numbers_more : n < m → pick (eqb m n) tie (ltb m n) ≡ false
-  unfolding pick
-  numbers_more h = rw (ne_eqb m n (λ e. omega arith)) (le-ltb m n (omega arith))
-
-  pub numbers-same : m ≡ n → pick (eqb m n) tie (ltb m n) ≡ tie
-  unfolding pick
-  numbers-same e = rw (eq-eqb m n e)
-
 with-lesser : (n d e : ℕ) → d < e → 48 ≤ d → with_digit n d < with_digit n e
 unfolding with_digit
 with-lesser n d e h k = omega arith
 
-as_long : (tie : Bool) (n : ℕ) (x y : List ℕ) → run x ≡ x → run y ≡ y → length x ≡ length y
-    → pick (eqb (foldl with_digit n x) (foldl with_digit n y)) tie (ltb (foldl with_digit n x) (foldl with_digit n y)) ≡ earlier tie x y
-as_long tie n [] [] g f l = numbers-same tie n n refl ∙ sym (earlier-self tie [])
-as_long tie n [] (e ∷ y) g f l = absurd (omega arith)
-as_long tie n (d ∷ x) [] g f l = absurd (omega arith)
-as_long tie n (d ∷ x) (e ∷ y) g f l =
+as_long : (n : ℕ) (x y : List ℕ) → run x ≡ x → run y ≡ y → length x ≡ length y
+    → nat_cmp (foldl with_digit n x) (foldl with_digit n y) ≡ slice_cmp nat_cmp x y
+as_long n [] [] g f l = same-is n n refl
+as_long n [] (e ∷ y) g f l = absurd (omega arith)
+as_long n (d ∷ x) [] g f l = absurd (omega arith)
+as_long n (d ∷ x) (e ∷ y) g f l =
     let g' = digits-tail d x g in
     let f' = digits-tail e y f in
     by_order d e
     (λ h.
     let k = with-lesser n d e h (digit-range d (digit-head d x g)).0 in
-    numbers-less tie _ _ (less-behind (with_digit n d) (with_digit n e) x y g' (suc_inj l) k) ∙ sym (head-less tie d e x y h))
-    (λ h. rw (← h) (as_long tie (with_digit n d) x y g' f' (suc_inj l) ∙ sym (heads-same tie d d x y refl)))
+    less-is _ _ (less-behind (with_digit n d) (with_digit n e) x y g' (suc_inj l) k) ∙ rw (less-is d e h) refl)
+    (λ h. rw (← h, same-is d d refl) (as_long (with_digit n d) x y g' f' (suc_inj l)))
     (λ h.
     let k = with-lesser n e d h (digit-range e (digit-head e y f)).0 in
-    numbers_more tie _ _ (less-behind (with_digit n e) (with_digit n d) y x f' (sym (suc_inj l)) k) ∙ sym (head_more tie d e x y h))
+    more-is _ _ (less-behind (with_digit n e) (with_digit n d) y x f' (sym (suc_inj l)) k) ∙ rw (more-is d e h) refl)
 
-pub as-long-order : (tie : Bool) (x y : List ℕ) → run x ≡ x → run y ≡ y → length x ≡ length y
-    → pick (eqb (spelled x) (spelled y)) tie (ltb (spelled x) (spelled y)) ≡ earlier tie x y
+-- ---- two numbers, behind the zeros that lead them
+
+abbrev bare : List ℕ → List ℕ
+bare s = drop (prefix_len (λ b. b == 48) s) s
+
+bare-zero : (d : ℕ) (s : List ℕ) → d ≡ 48 → bare (d ∷ s) ≡ bare s
+bare-zero d s e = rw (eq-eqb d 48 e, add_comm 1 (prefix_len (λ b. b == 48) s), add-one) refl
+
+bare-other : (d : ℕ) (s : List ℕ) → (d ≡ 48 → ⊥) → bare (d ∷ s) ≡ d ∷ s
+bare-other d s n = rw (ne_eqb d 48 n) refl
+
+bare-spelled : (s : List ℕ) → spelled (bare s) ≡ spelled s
+bare-spelled [] = refl
+bare-spelled (d ∷ s) =
+    by-test (eqb d 48) (λ e. let h = eqb-true d 48 e in rw (bare-zero d s h, h) (bare-spelled s ∙ sym (leading-zero s)))
+    (λ e. rw (bare-other d s (eqb-false d 48 e)) refl)
+
+bare-first : (s : List ℕ) → get_or (bare s) 0 0 ≡ 48 → ⊥
+bare-first [] e = omega arith
+bare-first (d ∷ s) e =
+    by-test (eqb d 48) (λ q. bare-first s (rw (bare-zero d s (eqb-true d 48 q)) at e))
+    (λ q. eqb-false d 48 q (rw (bare-other d s (eqb-false d 48 q)) at e))
+
+longer-is : (x y : List ℕ) → run x ≡ x → run y ≡ y → length (bare x) < length (bare y) → spelled x < spelled y
+longer-is x y g f l =
+    rw (bare-spelled x, bare-spelled y) at (longer-more (bare x) (bare y) (digits-drop _ x g) (digits-drop _ y f) l (bare-first y))
+
+numbers-is : (x y : List ℕ) → run x ≡ x → run y ≡ y
+    → ordering_then (nat_cmp (length (bare x)) (length (bare y))) (slice_cmp nat_cmp (bare x) (bare y)) ≡ nat_cmp (spelled x) (spelled y)
 unfolding spelled
-as-long-order tie x y = as_long tie 0 x y
+numbers-is x y g f =
+    by_order (length (bare x)) (length (bare y)) (λ l. rw (less-is _ _ l) (sym (less-is (spelled x) (spelled y) (longer-is x y g f l))))
+    (λ l. rw (same-is _ _ l) (sym (as_long 0 (bare x) (bare y) (digits-drop _ x g) (digits-drop _ y f) l) ∙ rw (bare-spelled x, bare-spelled y) refl))
+    (λ l. rw (more-is _ _ l) (sym (more-is (spelled x) (spelled y) (longer-is y x f g l))))
+
+-- a slice from k on, as the check writes it
+pub tail : (k : ℕ) (s : List ℕ) → take (length s - k) (drop k s) ≡ drop k s
+tail k s = take_all (length s - k) (drop k s) (rw length-drop (omega arith))
+
+-- what `then_with` answers of the lengths and the digits, at the places where the zeros end
+module _ {P : Type 0} (x y : List ℕ) {m n : ℕ} (g : run x ≡ x) (f : run y ≡ y) (p : m ≡ prefix_len (λ b. b == 48) x) (q : n ≡ prefix_len (λ b. b == 48) y) where
+  pub numbers-compared : {o r : Ordering}
+      → o ≡ nat_cmp (length (take (length x - m) (drop m x))) (length (take (length y - n) (drop n y)))
+      → MatchOrdering o (r ≡ Less) P (r ≡ Greater)
+      → (P → r ≡ slice_cmp nat_cmp (take (length x - m) (drop m x)) (take (length y - n) (drop n y)))
+      → r ≡ nat_cmp (spelled x) (spelled y)
+  numbers-compared {o} {r} e h k =
+      then_with-is o (slice_cmp nat_cmp (take (length x - m) (drop m x)) (take (length y - n) (drop n y))) r h k
+      ∙ rw (e, tail m x, tail n y, p, q) (numbers-is x y g f)

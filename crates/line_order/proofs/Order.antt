@@ -8,51 +8,75 @@
 --     at-most-behind      two lines that begin alike, up to a byte that is no digit, go by what follows
 --     at-most-versions    so digits behind such a beginning go by the numbers that they spell
 --     leading-zero        a zero that leads does not change the number that digits spell
-use mathlib.Core.Path.{◌≡◌, refl, sym, ap, ◌∙◌}
-use mathlib.Core.Bool.{Bool, true, false, ◌&&◌}
-use mathlib.Core.List.{List, [], ◌∷◌, ◌++◌}
-use Prim.Native.Nat.{ℕ, ◌<◌}
-use native.Mathlib.Omega.{arith}
-use borrow.Author.Tests.{le-leb, lt-leb}
-use lib.Dec.{eqb, leb, ltb}
+use Rattle.std.proofs.Common.{◌≡◌, ℕ, ◌<◌, true, false, ◌&&◌, List, [], ◌∷◌, ◌++◌, refl, sym, ap, ◌∙◌, arith, Ordering, Less, Equal, Greater, ltb, leb}
+use mathlib.Core.Bool.{true≢false, false≢true}
+use borrow.Author.Tests.{le-leb, lt-leb, lt-ltb, le-ltb}
+use Rattle.std.proofs.lemmas.Cmp.{nat_list_cmp_total, on_total, then_total, upto, tied_itself}
+use Rattle.std.proofs.lemmas.Map.Lookups.{exact_bytes}
+use Rattle.std.specs.Cmp.{IsTotalOrder}
+use Rattle.std.specs.Cmp.Lexicographic.{slice_cmp}
+use Rattle.std.specs.Ordering.{nat_cmp, ordering_then, ordering_reverse, is_le, is_gt, on, then_cmp}
 use Rattle.laws.specs.Choice.{pick}
 use Rattle.laws.specs.Kinds.{All, Each}
 use Rattle.line_order.specs.Order.{is_digit, run, with_digit, spelled, key_from, key, earlier, at_most}
-use Rattle.line_order.proofs.Earlier.{by_order, heads-same, earlier-self, earlier-behind, earlier-trans, earlier-antisym, earlier-total}
+use Rattle.line_order.proofs.Compared.{by_order, less-is, same-is, more-is, slice_cmp-behind}
 use Rattle.line_order.proofs.Keys.{run_none, run_in, key-first-ends, key-second-ends, key-parts, numbers-meet, bytes-differ}
-use Rattle.line_order.proofs.Numbers.{numbers-less, numbers_more}
+use Rattle.line_order.proofs.Walk.{by_value, at-most-is}
 pub use Rattle.line_order.proofs.Numbers.{leading-zero}
 
--- ---- a total order
+-- ---- a total order: two lines compare by value and then by their bytes, and either is a total order
+
+abbrev line_cmp : List ℕ → List ℕ → Ordering
+line_cmp = then_cmp (on key (slice_cmp nat_cmp)) (slice_cmp nat_cmp)
+
+total : IsTotalOrder line_cmp
+total = then_total (on_total key nat_list_cmp_total) nat_list_cmp_total
+
+not-more : (o : Ordering) → is_le o ≡ true → is_gt o ≡ false
+not-more Less e = refl
+not-more Equal e = refl
+not-more Greater e = absurd (false≢true e)
+
+at-most : (o : Ordering) → is_gt o ≡ false → is_le o ≡ true
+at-most Less e = refl
+at-most Equal e = refl
+at-most Greater e = absurd (true≢false e)
+
+turned : (o : Ordering) → is_le o ≡ false → is_le (ordering_reverse o) ≡ true
+turned Less e = absurd (true≢false e)
+turned Equal e = absurd (true≢false e)
+turned Greater e = refl
+
+both-ways : (o : Ordering) → is_le o ≡ true → is_le (ordering_reverse o) ≡ true → o ≡ Equal
+both-ways Less e f = absurd (false≢true f)
+both-ways Equal e f = refl
+both-ways Greater e f = absurd (false≢true e)
+
+then-equal : (o p : Ordering) → ordering_then o p ≡ Equal → p ≡ Equal
+then-equal Less p e = cc
+then-equal Equal p e = e
+then-equal Greater p e = cc
 
 pub at-most-refl : (a : List ℕ) → at_most a a ≡ true
-unfolding at_most
-at-most-refl a = earlier-self (earlier true a a) (key a) ∙ earlier-self true a
+at-most-refl a = sym (at-most-is a a) ∙ ap is_le (tied_itself total a)
 
 pub at-most-trans : (a b c : List ℕ) → at_most a b ≡ true → at_most b c ≡ true → at_most a c ≡ true
-unfolding at_most
-at-most-trans a b c =
-    earlier-trans (earlier true a b) (earlier true b c) (earlier true a c) (key a) (key b) (key c) (earlier-trans true true true a b c (λ h k. refl))
+at-most-trans a b c e f =
+    sym (at-most-is a c)
+    ∙ at-most (line_cmp a c) (upto total a b c (not-more (line_cmp a b) (at-most-is a b ∙ e)) (not-more (line_cmp b c) (at-most-is b c ∙ f)))
 
 pub at-most-total : (a b : List ℕ) → at_most a b ≡ false → at_most b a ≡ true
-unfolding at_most
-at-most-total a b = earlier-total (earlier true a b) (earlier true b a) (key a) (key b) (earlier-total true true a b (λ h. refl))
-
--- where the answer for equal lists is true, the empty list is before every other or is the same
-empty-first : (tie : Bool) (s : List ℕ) → tie ≡ true → earlier tie [] s ≡ true
-unfolding earlier
-empty-first tie [] h = h
-empty-first tie (y ∷ s) h = refl
-
-pub at-most-empty : (l : List ℕ) → at_most [] l ≡ true
-unfolding at_most key key_from
-at-most-empty l = empty-first (earlier true [] l) (key l) (empty-first true l refl)
+at-most-total a b e = sym (at-most-is b a) ∙ ap is_le (total.antisymm b a) ∙ turned (line_cmp a b) (at-most-is a b ∙ e)
 
 pub at-most-antisym : (a b : List ℕ) → at_most a b ≡ true → at_most b a ≡ true → a ≡ b
-unfolding at_most
 at-most-antisym a b e f =
-    let h = earlier-antisym (earlier true a b) (earlier true b a) (key a) (key b) e f in
-    (earlier-antisym true true a b h.1 h.2).0
+    exact_bytes a b
+    (then-equal (by_value a b) (slice_cmp nat_cmp a b)
+    (both-ways (line_cmp a b) (at-most-is a b ∙ e) (ap is_le (sym (total.antisymm b a)) ∙ at-most-is b a ∙ f)))
+
+pub at-most-empty : (l : List ℕ) → at_most [] l ≡ true
+at-most-empty [] = at-most-refl []
+at-most-empty (y ∷ l) = sym (at-most-is [] (y ∷ l)) ∙ rw (key-first-ends y l) refl
 
 -- ---- numbers
 
@@ -67,20 +91,19 @@ own-run : (ds : List ℕ) → Each (λ d. is_digit d ≡ true) ds → run ds ≡
 own-run [] h = run_none
 own-run (d ∷ ds) h = run_in d ds h.0 ∙ ap (λ (l : List ℕ). d ∷ l) (own-run ds h.1)
 
-decided : (tie : Bool) (p q : ℕ) → (p ≡ q → ⊥) → pick (eqb p q) tie (ltb p q) ≡ leb p q
-decided tie p q k =
-    by_order p q (λ l. numbers-less tie p q l ∙ sym (le-leb p q (omega arith))) (λ l. absurd (k l)) (λ l. numbers_more tie p q l ∙ sym (lt-leb p q l))
+decided : (p q : ℕ) (o r : Ordering) → (p ≡ q → ⊥) → is_le (ordering_then (ordering_then (nat_cmp p q) o) r) ≡ leb p q
+decided p q o r k =
+    by_order p q (λ l. rw (less-is p q l) (sym (le-leb p q (omega arith)))) (λ l. absurd (k l)) (λ l. rw (more-is p q l) (sym (lt-leb p q l)))
 
 pub at-most-numbers : (x y : ℕ) (s t : List ℕ) → is_digit x ≡ true → is_digit y ≡ true → (spelled (run (x ∷ s)) ≡ spelled (run (y ∷ t)) → ⊥)
     → at_most (x ∷ s) (y ∷ t) ≡ leb (spelled (run (x ∷ s))) (spelled (run (y ∷ t)))
-unfolding at_most
-at-most-numbers x y s t h k n = numbers-meet (earlier true (x ∷ s) (y ∷ t)) x y s t (rw (h, k)) ∙ decided _ _ _ n
+at-most-numbers x y s t h k n = sym (at-most-is (x ∷ s) (y ∷ t)) ∙ rw (numbers-meet x y s t (rw (h, k) refl)) (decided _ _ _ _ n)
 
 pub at-most-numerals : (ds es : List ℕ) → Digits ds → Digits es → (spelled ds ≡ spelled es → ⊥) → at_most ds es ≡ leb (spelled ds) (spelled es)
-unfolding at_most
 at-most-numerals [] [] h k n = absurd (n refl)
-at-most-numerals [] (y ∷ t) h k n = key-first-ends _ y t ∙ sym (rw spelled_none (le-leb 0 (spelled (y ∷ t)) (omega arith)))
-at-most-numerals (x ∷ s) [] h k n = key-second-ends _ x s ∙ sym (lt-leb (spelled (x ∷ s)) (spelled []) (some spelled_none n))
+at-most-numerals [] (y ∷ t) h k n = at-most-empty (y ∷ t) ∙ sym (rw spelled_none (le-leb 0 (spelled (y ∷ t)) (omega arith)))
+at-most-numerals (x ∷ s) [] h k n =
+    sym (at-most-is (x ∷ s) []) ∙ rw (key-second-ends x s) (sym (lt-leb (spelled (x ∷ s)) (spelled []) (some spelled_none n)))
   where
     some : {z : ℕ} → z ≡ 0 → (spelled (x ∷ s) ≡ z → ⊥) → z < spelled (x ∷ s)
     some e m = omega arith
@@ -90,17 +113,25 @@ at-most-numerals (x ∷ s) (y ∷ t) h k n =
 
 -- ---- bytes
 
+byte-decided : (x y : ℕ) (r : Ordering) → (x ≡ y → ⊥) → is_le (ordering_then (nat_cmp x y) r) ≡ ltb x y
+byte-decided x y r n =
+    by_order x y (λ l. rw (less-is x y l) (sym (lt-ltb x y l))) (λ l. absurd (n l)) (λ l. rw (more-is x y l) (sym (le-ltb x y (omega arith))))
+
 pub at-most-bytes : (x y : ℕ) (s t : List ℕ) → (is_digit x && is_digit y) ≡ false → (x ≡ y → ⊥) → at_most (x ∷ s) (y ∷ t) ≡ ltb x y
-unfolding at_most
-at-most-bytes x y s t = bytes-differ (earlier true (x ∷ s) (y ∷ t)) x y s t
+at-most-bytes x y s t d n = sym (at-most-is (x ∷ s) (y ∷ t)) ∙ rw (bytes-differ x y s t d n) (byte-decided x y _ n)
 
 -- ---- behind what both begin with
 
 pub at-most-behind : (q : List ℕ) (c : ℕ) (u v : List ℕ) → is_digit c ≡ false → at_most (q ++ c ∷ u) (q ++ c ∷ v) ≡ at_most u v
-unfolding at_most
 at-most-behind q c u v n =
-    rw (key-parts c n u q, key-parts c n v q, earlier-behind _ (key q) (c ∷ key u) (c ∷ key v), heads-same _ c c (key u) (key v) refl)
-    (ap (λ (tie : Bool). earlier tie (key u) (key v)) (earlier-behind true q (c ∷ u) (c ∷ v) ∙ heads-same true c c u v refl))
+    sym (at-most-is (q ++ c ∷ u) (q ++ c ∷ v))
+    ∙ rw (
+      key-parts c n u q,
+      key-parts c n v q,
+      slice_cmp-behind (key q) (c ∷ key u) (c ∷ key v),
+      slice_cmp-behind q (c ∷ u) (c ∷ v),
+      same-is c c refl,
+    ) (at-most-is u v)
 
 pub at-most-versions : (q : List ℕ) (c : ℕ) (ds es : List ℕ) → is_digit c ≡ false → Digits ds → Digits es → (spelled ds ≡ spelled es → ⊥)
     → at_most (q ++ c ∷ ds) (q ++ c ∷ es) ≡ leb (spelled ds) (spelled es)

@@ -1,81 +1,116 @@
--- Two lines, token by token: what is left of them has the order that they have. Assumes nothing.
-use mathlib.Core.Path.{◌≡◌, refl, sym, ◌∙◌}
-use mathlib.Core.Bool.{true, false, ◌&&◌}
-use mathlib.Core.List.{List, []}
-use Prim.Native.Nat.{ℕ, ◌+◌, ◌-◌, ◌≤◌, ◌<◌}
-use native.Mathlib.Omega.{arith}
-use lib.Dec.{eqb, ltb}
-use lib.ListN.{length, get_or, take, drop, drop_of_length-le}
-use lib.Seq.{drop-drop}
-use Rattle.laws.specs.Choice.{pick, both}
+-- Two lines, place by place: what is left of them has the order that they have. Assumes nothing.
+use Rattle.std.proofs.Common.{◌≡◌, ℕ, ◌<◌, ◌-◌, ◌⊎◌, Bool, true, false, ◌&&◌, List, [], ◌∷◌, refl, sym, ap, ◌∙◌, arith, Ordering, Less, Equal, Greater, length, take, drop}
+use Prim.Native.Nat.{suc}
+use mathlib.Core.Bool.{true≢false, false≢true}
+use lib.ListN.{get_or}
+use Rattle.std.specs.Char.{is_ascii_digit}
+use Rattle.std.specs.Cmp.Lexicographic.{slice_cmp}
+use Rattle.std.specs.List.{prefix_len}
+use Rattle.std.specs.Ordering.{nat_cmp, ordering_then, is_le, is_ne, MatchOrdering}
 use Rattle.line_order.specs.Order.{is_digit, run, spelled, key, earlier, at_most}
-use Rattle.line_order.specs.Steps.{comparison}
-use Rattle.line_order.proofs.Earlier.{earlier-self}
-use Rattle.line_order.proofs.Keys.{key-first-ends, key-second-ends, numbers-meet, bytes_same, bytes-differ, run_take, run-run, run-some}
-use Rattle.line_order.proofs.Turns.{at_head}
-use Rattle.line_order.proofs.Verdicts.{comparison-decides, comparison-ties}
+use Rattle.line_order.proofs.Compared.{less-is, more-is, then_with-is, settled, earlier-is, settled-settled}
+use Rattle.line_order.proofs.Numbers.{tail}
+use Rattle.line_order.proofs.Keys.{run_take, run-run, run-length, run-some, numbers-meet, bytes_same, bytes-differ, key-none, key-first-ends, key-second-ends}
 
--- ---- a run of digits as a part of a line
+-- how two lines compare by value
+abbrev pub by_value : List ℕ → List ℕ → Ordering
+by_value s t = slice_cmp nat_cmp (key s) (key t)
 
-run-part : (i m : ℕ) (s : List ℕ) → m ≡ i + length (run (drop i s)) → take (m - i) (drop i s) ≡ run (drop i s)
-run-part i m s e = rw (part (length (run (drop i s))) e) (run_take (drop i s))
-  where
-    part : (n : ℕ) → m ≡ i + n → m - i ≡ n
-    part n h = omega arith
+-- ---- the digits that a line begins with
 
-pub part-digits : (i m : ℕ) (s : List ℕ) → m ≡ i + length (run (drop i s)) → run (take (m - i) (drop i s)) ≡ take (m - i) (drop i s)
-part-digits i m s e = rw (run-part i m s e) (run-run (drop i s))
+module _ (s : List ℕ) {n : ℕ} (e : n ≡ prefix_len is_ascii_digit s) where
+  here : n ≡ length (run s)
+  here = e ∙ sym (run-length s)
+
+  pub run-part : take n s ≡ run s
+  run-part = rw here (run_take s)
+
+  pub part-digits : run (take n s) ≡ take n s
+  part-digits = rw run-part (run-run s)
+
+  pub run-behind : drop n s ≡ drop (length (run s)) s
+  run-behind = rw here refl
+
+  pub run-long : 0 < length s → is_ascii_digit (get_or s 0 0) ≡ true → 0 < n
+  unfolding is_digit
+  run-long h d = rw here (some s h d)
+    where
+      some : (s : List ℕ) → 0 < length s → is_digit (get_or s 0 0) ≡ true → 0 < length (run s)
+      some [] h d = absurd (omega arith)
+      some (x ∷ s) h d = run-some x s d
 
 -- ---- the walk
 
--- what is left of a from i on and of b from j on has the order of a and b
-pub record Left (a b : List ℕ) (i j : ℕ) : Type 0 where
-  pub first : i ≤ length a
-  pub second : j ≤ length b
-  pub order : at_most a b ≡ earlier (earlier true a b) (key (drop i a)) (key (drop j b))
+pub ended : (s t : List ℕ) → (length s ≡ 0) ⊎ (length t ≡ 0) → by_value s t ≡ nat_cmp (length s) (length t)
+ended [] [] h = rw key-none refl
+ended [] (y ∷ t) h = key-first-ends y t ∙ sym (less-is 0 (suc (length t)) (omega arith))
+ended (x ∷ s) [] h = key-second-ends x s ∙ sym (more-is (suc (length s)) 0 (omega arith))
+ended (x ∷ s) (y ∷ t) h = absurd (omega arith)
 
-pub left-all : (a b : List ℕ) → Left a b 0 0
+module _ (s t : List ℕ) (h : 0 < length s) (l : 0 < length t) where
+  pub numbers-first : (is_ascii_digit (get_or s 0 0) && is_ascii_digit (get_or t 0 0)) ≡ true
+      → by_value s t ≡ ordering_then (nat_cmp (spelled (run s)) (spelled (run t))) (by_value (drop (length (run s)) s) (drop (length (run t)) t))
+  unfolding is_digit
+  numbers-first d = go s t h l d
+    where
+      go : (s t : List ℕ) → 0 < length s → 0 < length t → (is_digit (get_or s 0 0) && is_digit (get_or t 0 0)) ≡ true
+          → by_value s t ≡ ordering_then (nat_cmp (spelled (run s)) (spelled (run t))) (by_value (drop (length (run s)) s) (drop (length (run t)) t))
+      go [] t h l d = absurd (omega arith)
+      go (x ∷ s) [] h l d = absurd (omega arith)
+      go (x ∷ s) (y ∷ t) h l d = numbers-meet x y s t d
+
+  -- two numbers, in the parts that a split at the digits gives
+  module _ (d : (is_ascii_digit (get_or s 0 0) && is_ascii_digit (get_or t 0 0)) ≡ true) {m n : ℕ} (e : m ≡ prefix_len is_ascii_digit s) (f : n ≡ prefix_len is_ascii_digit t)
+      {x y : List ℕ} (p : x ≡ take m s) (q : y ≡ take n t) {r : Ordering} (c : r ≡ nat_cmp (spelled x) (spelled y)) where
+    numbers-here : by_value s t ≡ ordering_then r (by_value (drop m s) (drop n t))
+    numbers-here = rw (c, p, q, run-part s e, run-part t f, run-behind s e, run-behind t f) (numbers-first d)
+
+    decided : (r o : Ordering) → is_ne r ≡ true → ordering_then r o ≡ r
+    decided Less o h = refl
+    decided Equal o h = absurd (false≢true h)
+    decided Greater o h = refl
+
+    undecided : (r o : Ordering) → is_ne r ≡ false → ordering_then r o ≡ o
+    undecided Less o h = absurd (true≢false h)
+    undecided Equal o h = refl
+    undecided Greater o h = absurd (true≢false h)
+
+    pub number-settles : is_ne r ≡ true → by_value s t ≡ r
+    number-settles h = numbers-here ∙ decided r _ h
+
+    pub number-turn : {u v : List ℕ} → is_ne r ≡ false → u ≡ drop m s → v ≡ drop n t → by_value s t ≡ by_value u v
+    number-turn h a b = numbers-here ∙ undecided r _ h ∙ rw (a, b) refl
+
+  module _ (d : (is_ascii_digit (get_or s 0 0) && is_ascii_digit (get_or t 0 0)) ≡ false) where
+    pub byte-settles : (get_or s 0 0 ≡ get_or t 0 0 → ⊥) → by_value s t ≡ nat_cmp (get_or s 0 0) (get_or t 0 0)
+    unfolding is_digit
+    byte-settles n = go s t h l d n
+      where
+        go : (s t : List ℕ) → 0 < length s → 0 < length t → (is_digit (get_or s 0 0) && is_digit (get_or t 0 0)) ≡ false → (get_or s 0 0 ≡ get_or t 0 0 → ⊥)
+            → by_value s t ≡ nat_cmp (get_or s 0 0) (get_or t 0 0)
+        go [] t h l d n = absurd (omega arith)
+        go (x ∷ s) [] h l d n = absurd (omega arith)
+        go (x ∷ s) (y ∷ t) h l d n = bytes-differ x y s t d n
+
+    pub byte-turn : get_or s 0 0 ≡ get_or t 0 0 → by_value s t ≡ by_value (take (length s - 1) (drop 1 s)) (take (length t - 1) (drop 1 t))
+    unfolding is_digit
+    byte-turn e = rw (tail 1 s, tail 1 t) (go s t h l d e)
+      where
+        go : (s t : List ℕ) → 0 < length s → 0 < length t → (is_digit (get_or s 0 0) && is_digit (get_or t 0 0)) ≡ false → get_or s 0 0 ≡ get_or t 0 0
+            → by_value s t ≡ by_value (drop 1 s) (drop 1 t)
+        go [] t h l d e = absurd (omega arith)
+        go (x ∷ s) [] h l d e = absurd (omega arith)
+        go (x ∷ s) (y ∷ t) h l d e = bytes_same x y s t d e
+
+-- ---- the bytes tell apart what is the same so
+
+pub at-most-is : (a b : List ℕ) → is_le (ordering_then (by_value a b) (slice_cmp nat_cmp a b)) ≡ at_most a b
 unfolding at_most
-left-all a b = record { first = omega arith; second = omega arith; order = refl }
+at-most-is a b =
+    sym
+    (earlier-is (earlier true a b) (key a) (key b) ∙ ap (λ (t : Bool). settled t (by_value a b)) (earlier-is true a b)
+    ∙ settled-settled (slice_cmp nat_cmp a b) (by_value a b))
 
-module _ {a b : List ℕ} {i j : ℕ} (w : Left a b i j) where
-  pub second-done : i < length a → length b ≤ j → false ≡ at_most a b
-  second-done h l = sym (w.order ∙ rw (at_head i a h, drop_of_length-le b l) (key-second-ends _ _ _))
-
-  pub first_done : length a ≤ i → j < length b → true ≡ at_most a b
-  first_done h l = sym (w.order ∙ rw (drop_of_length-le a h, at_head j b l) (key-first-ends _ _ _))
-
-  pub both-done : length a ≤ i → length b ≤ j → earlier true a b ≡ at_most a b
-  both-done h l = sym (w.order ∙ rw (drop_of_length-le a h, drop_of_length-le b l) (earlier-self _ (key [])))
-
-  module _ (h : i < length a) (l : j < length b) where
-    pub byte-turn : (is_digit (get_or a i 0) && is_digit (get_or b j 0)) ≡ false → get_or a i 0 ≡ get_or b j 0 → Left a b (i + 1) (j + 1)
-    byte-turn d e =
-        record {
-          first = omega arith;
-          second = omega arith;
-          order = w.order ∙ rw (at_head i a h, at_head j b l) (bytes_same _ _ _ _ _ d e);
-        }
-
-    pub byte-settles : (is_digit (get_or a i 0) && is_digit (get_or b j 0)) ≡ false → (get_or a i 0 ≡ get_or b j 0 → ⊥) → ltb (get_or a i 0) (get_or b j 0) ≡ at_most a b
-    byte-settles d n = sym (w.order ∙ rw (at_head i a h, at_head j b l) (bytes-differ _ _ _ _ _ d n))
-
-    module _ (d : (is_digit (get_or a i 0) && is_digit (get_or b j 0)) ≡ true) {m n : ℕ} (e : m ≡ i + length (run (drop i a))) (f : n ≡ j + length (run (drop j b))) where
-      numbers-here : at_most a b
-          ≡ pick (eqb (spelled (take (m - i) (drop i a))) (spelled (take (n - j) (drop j b))))
-          (earlier (earlier true a b) (key (drop m a)) (key (drop n b)))
-          (ltb (spelled (take (m - i) (drop i a))) (spelled (take (n - j) (drop j b))))
-      numbers-here =
-          rw (run-part i m a e, run-part j n b f, e, f, ← (drop-drop (length (run (drop i a))) i a), ← (drop-drop (length (run (drop j b))) j b))
-          (w.order ∙ rw (at_head i a h, at_head j b l) (numbers-meet _ _ _ _ _ d))
-
-      -- so that the walk goes on
-      pub number-long : i < m
-      number-long = let g : 0 < length (run (drop i a)) = rw (at_head i a h) (run-some _ _ (both _ _ d).0) in omega arith
-
-      module _ {o : ℕ} (q : o ≡ comparison (spelled (take (m - i) (drop i a))) (spelled (take (n - j) (drop j b)))) where
-        pub number-settles : (o ≡ 1 → ⊥) → eqb o 0 ≡ at_most a b
-        number-settles k = sym (numbers-here ∙ comparison-decides _ _ _ o q k)
-
-        pub number-turn : m ≤ length a → n ≤ length b → o ≡ 1 → Left a b m n
-        number-turn u v k = record { first = u; second = v; order = numbers-here ∙ comparison-ties _ _ _ o q k }
+pub at-most-compared : {P : Type 0} (a b : List ℕ) {o r : Ordering} → o ≡ by_value a b → MatchOrdering o (r ≡ Less) P (r ≡ Greater)
+    → (P → r ≡ slice_cmp nat_cmp a b) → is_le r ≡ at_most a b
+at-most-compared a b {o} {r} e h k = ap is_le (then_with-is o (slice_cmp nat_cmp a b) r h k) ∙ rw e (at-most-is a b)

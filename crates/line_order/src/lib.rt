@@ -4,150 +4,81 @@
 // Lines that are the same so are told apart by their bytes.
 #![tactic(auto)]
 
-ghost use Rattle.std.specs.Prelude.{◌≡◌, true, ◌&&◌, ◌+◌, ◌≤◌, length, drop};
-ghost use Rattle.line_order.specs.Order.{is_digit, run, spelled, earlier};
-ghost use Rattle.line_order.specs.Steps.{comparison, Leading, Agreed};
+ghost use Rattle.std.specs.Prelude.{◌≡◌, ◌==◌, ◌&&◌, ◌≤◌, length};
+ghost use Rattle.std.specs.Char.{is_ascii_digit};
+ghost use Rattle.std.specs.Cmp.Lexicographic.{slice_cmp};
+ghost use Rattle.std.specs.List.{prefix_len};
+ghost use Rattle.std.specs.Ordering.{nat_cmp};
+ghost use Rattle.line_order.specs.Order.{run, spelled, key};
 ghost use Rattle.line_order.specs.Promises.{AtMost};
 
-// What a comparison of two numbers finds of the first.
-const LESS: u8 = 0;
-
-const SAME: u8 = 1;
-
-const MORE: u8 = 2;
+use std::cmp::Ordering;
 
 // Whether the line `a` comes before the line `b`, or is the same.
 pub fn at_most(a: &[u8], b: &[u8]) -> bool
     ensures { AtMost a.now b.now result }
 {
-    let mut i = 0usize;
-    let mut j = 0usize;
-    while i < a.len() {
-        // Of two lines that are the same so far the one that ends comes first.
-        if j >= b.len() {
-            return false;
-        }
-        let x = a[i];
-        let y = b[j];
-        if both_digits(x, y) {
-            let m = run_end(a, i);
-            let n = run_end(b, j);
-            let order = compare_numbers(&a[i..m], &b[j..n]);
-            if order != SAME {
-                return order == LESS;
+    compare_by_value(a, b).then_with(|| a.cmp(&b)).is_le()
+}
+
+// The order of two lines with each number as one place.
+fn compare_by_value(a: &[u8], b: &[u8]) -> Ordering
+    ensures { result ≡ slice_cmp nat_cmp (key a.now) (key b.now) }
+{
+    let (mut s, mut t) = (a, b);
+    while let ([x, s_rest @ ..], [y, t_rest @ ..]) = (s, t) {
+        if both_digits(*x, *y) {
+            let (number, s_behind) = s.split_at(digits_len(s));
+            let (other, t_behind) = t.split_at(digits_len(t));
+            let order = compare_numbers(number, other);
+            if order.is_ne() {
+                return order;
             }
-            i = m;
-            j = n;
+            s = s_behind;
+            t = t_behind;
         } else {
             // A digit stands among the other bytes where it stands as a byte.
             if x != y {
-                return x < y;
+                return x.cmp(y);
             }
-            i += 1;
-            j += 1;
+            s = s_rest;
+            t = t_rest;
         }
     }
-    if j < b.len() {
-        return true;
-    }
-    bytes_at_most(a, b)
+    // Of two lines that are the same so far the one that ends comes first.
+    s.len().cmp(&t.len())
 }
 
 fn both_digits(x: u8, y: u8) -> bool
-    ensures { result ≡ (is_digit x && is_digit y) }
+    ensures { result ≡ (is_ascii_digit x && is_ascii_digit y) }
 {
-    is_digit(x) & is_digit(y)
-}
-
-fn is_digit(b: u8) -> bool
-    ensures { result ≡ is_digit b }
-{
-    (b'0' <= b) & (b <= b'9')
-}
-
-// Where the digits end that stand at `from`.
-fn run_end(s: &[u8], from: usize) -> usize
-    requires { from ≤ length s.now }
-    ensures value { result ≡ from + length (run (drop from s.now)) }
-    ensures upper_bound { result ≤ length s.now }
-{
-    let mut k = from;
-    while k < s.len() {
-        if !is_digit(s[k]) {
-            return k;
-        }
-        k += 1;
-    }
-    k
+    x.is_ascii_digit() && y.is_ascii_digit()
 }
 
 // The first number that digits spell against the second. Behind the zeros that lead them the longer one is the greater, and of two that
 // are as long the first digit that differs decides: the numbers are never made, so they may have any length.
-fn compare_numbers(x: &[u8], y: &[u8]) -> u8
-    requires x_value { run x.now ≡ x.now }
-    requires y_value { run y.now ≡ y.now }
-    ensures { result ≡ comparison (spelled x.now) (spelled y.now) }
+fn compare_numbers(x: &[u8], y: &[u8]) -> Ordering
+    requires x_digits { run x.now ≡ x.now }
+    requires y_digits { run y.now ≡ y.now }
+    ensures { result ≡ nat_cmp (spelled x.now) (spelled y.now) }
 {
-    let p = leading_zeros(x);
-    let q = leading_zeros(y);
-    let m = x.len() - p;
-    let n = y.len() - q;
-    if m < n {
-        return LESS;
-    }
-    if n < m {
-        return MORE;
-    }
-    let k = agreement(&x[p..], &y[q..]);
-    if k == m {
-        return SAME;
-    }
-    if x[p + k] < y[q + k] {
-        return LESS;
-    }
-    MORE
+    let x = &x[zeros_len(x)..];
+    let y = &y[zeros_len(y)..];
+    x.len().cmp(&y.len()).then_with(|| x.cmp(&y))
 }
 
-fn leading_zeros(s: &[u8]) -> usize
-    ensures { Leading s.now result }
+// How many digits lead.
+fn digits_len(s: &[u8]) -> usize
+    ensures value { result ≡ prefix_len is_ascii_digit s.now }
+    ensures within { result ≤ length s.now }
 {
-    let mut k = 0usize;
-    while k < s.len() {
-        if s[k] != b'0' {
-            return k;
-        }
-        k += 1;
-    }
-    k
+    s.iter().take_while(|b| b.is_ascii_digit()).count()
 }
 
-// The order of the bytes.
-fn bytes_at_most(a: &[u8], b: &[u8]) -> bool
-    ensures { result ≡ earlier true a.now b.now }
+// How many zeros lead.
+fn zeros_len(s: &[u8]) -> usize
+    ensures value { result ≡ prefix_len (λ b. b == 48) s.now }
+    ensures within { result ≤ length s.now }
 {
-    let k = agreement(a, b);
-    if k == a.len() {
-        return true;
-    }
-    if k == b.len() {
-        return false;
-    }
-    a[k] < b[k]
-}
-
-// At how many places in a row `s` and `t` agree from their start on.
-fn agreement(s: &[u8], t: &[u8]) -> usize
-    ensures { Agreed s.now t.now result }
-{
-    let mut k = 0usize;
-    while k < s.len() {
-        if k >= t.len() {
-            return k;
-        }
-        if s[k] != t[k] {
-            return k;
-        }
-        k += 1;
-    }
-    k
+    s.iter().take_while(|b| **b == b'0').count()
 }
