@@ -2,4 +2,5 @@
 #![tactic(auto)]
 
 pub mod clears;
+pub mod lent;
 pub mod weights;

@@ -2,45 +2,34 @@
 ghost use Rattle.std.specs.Prelude.{◌≡◌, length};
 ghost use Rattle.tau_clears.specs.Weights.{cleared, halved, leaked};
 
+#[tactic(auto, unfolding(crate::specs::Weights::cleared))]
 pub fn clear(d: &mut [f64])
     ensures { d.new ≡ cleared d.old }
 {
-    let mut i = 0usize;
-    while i < d.len() {
-        d[i] = 0.0;
-        i += 1;
-    }
+    d.fill(0.0);
 }
 
 pub fn copy(d: &mut [f64], s: &[f64])
     requires { length s.now ≡ length d.old }
     ensures { d.new ≡ s.now }
 {
-    let mut i = 0usize;
-    while i < d.len() {
-        d[i] = s[i];
-        i += 1;
+    d.copy_from_slice(s);
+}
+
+pub fn halve(weights: &mut [f64])
+    ensures { weights.new ≡ halved weights.old }
+{
+    for weight in weights.iter_mut() {
+        *weight = *weight * 0.5;
     }
 }
 
-pub fn halve(d: &mut [f64])
-    ensures { d.new ≡ halved d.old }
+// Every weight moves by leak times its difference from the other filter's.
+pub fn leak_to(weights: &mut [f64], others: &[f64], leak: f64)
+    requires { length others.now ≡ length weights.old }
+    ensures { weights.new ≡ leaked leak others.now weights.old }
 {
-    let mut i = 0usize;
-    while i < d.len() {
-        d[i] = d[i] * 0.5;
-        i += 1;
-    }
-}
-
-pub fn leak_to(d: &mut [f64], s: &[f64], leak: f64)
-    requires { length s.now ≡ length d.old }
-    ensures { d.new ≡ leaked leak s.now d.old }
-{
-    let mut i = 0usize;
-    while i < d.len() {
-        let w = d[i];
-        d[i] = w + leak * (s[i] - w);
-        i += 1;
+    for (k, weight) in weights.iter_mut().enumerate() {
+        *weight = *weight + leak * (others[k] - *weight);
     }
 }

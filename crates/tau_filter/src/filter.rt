@@ -7,10 +7,10 @@ ghost use Rattle.tau_filter.specs.Lent.{shadowed_of, estimated_of};
 ghost use Rattle.tau_filter.specs.Filter.{added, echo_of, errors_of, bad_to, shadowed, estimated};
 
 use complex::Complex;
-use tau_clears::clears::{diverge, diverge_shadow};
+use tau_clears::lent::{diverge, diverge_shadow};
 use tau_spectra::bins::{get, put};
 use tau_spectra::ring::slot_of;
-use tau_spectra::transform::later_half;
+use tau_spectra::lent::later_half;
 use tau_state::state::Paths;
 
 // One partition's products, bin by bin onto the sum.

@@ -3,7 +3,7 @@ ghost use Rattle.std.specs.Prelude.{◌≡◌, ◌≤◌};
 ghost use Rattle.tau_state.specs.Lent.{suppressor_of};
 ghost use Rattle.tau_guard.specs.Guard.{watched, trips, replaced, guarded};
 
-use tau_clears::clears::retire_output;
+use tau_clears::lent::retire_output;
 use tau_state::state::{Guard, Paths};
 use tau_state::sums::{energy, smooth};
 

@@ -6,7 +6,7 @@ ghost use Rattle.tau_block.specs.Lent.{mic_block};
 ghost use Rattle.tau_run.specs.Lent.{uncarried, ran_of};
 
 use tau_block::run_mic;
-use tau_spectra::far::hear;
+use tau_spectra::lent::hear;
 use tau_state::lent::{rest_of, whole};
 use tau_state::report::Told;
 use tau_state::state::{FarRest, MicRest, TauCanceller};

@@ -3,6 +3,8 @@
 
 pub mod bins;
 pub mod far;
+pub mod lent;
 pub mod powers;
 pub mod ring;
 pub mod transform;
+pub mod windows;

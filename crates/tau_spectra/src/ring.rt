@@ -1,6 +1,33 @@
 // The ring of far spectra.
-ghost use Rattle.std.specs.Prelude.{◌≡◌, ◌≤◌, ◌<◌};
+ghost use Rattle.std.specs.Prelude.{◌≡◌, ◌≤◌, ◌<◌, ◌*◌, length};
 ghost use Rattle.tau_spectra.specs.Ring.{next_slot, slot_of};
+
+// The spectra as the filters read them: `partitions` slots of 514 numbers each, the newest spectrum in slot `head`.
+#[derive(Clone, Copy)]
+pub struct FarRing<'a> {
+    pub partitions: usize,
+    pub head: usize,
+    pub spectra: &'a [f64],
+    ghost whole_slots: { length spectra.now ≡ 514 * partitions },
+    ghost head_in_ring: { head < partitions },
+    ghost at_most_32: { partitions ≤ 32 },
+}
+
+impl<'a> FarRing<'a> {
+    ghost use Rattle.tau_spectra.specs.FarRing.{ring_in};
+    ghost use Rattle.tau_spectra.specs.Ring.{met_by};
+
+    // The spectrum that partition p meets.
+    pub fn met_by(&self, p: usize) -> &'a [f64]
+        requires { p < self.now.partitions }
+        ensures spectrum { result.now ≡ met_by (ring_in self.now) p }
+        ensures bins { length result.now ≡ 514 }
+    {
+        let start = 514 * slot_of(self.head, self.partitions, p);
+        let end = start + 514;
+        &self.spectra[start..end]
+    }
+}
 
 pub fn next_slot(partitions: usize, head: usize) -> usize
     requires { (partitions ≤ 32) × (head < partitions) }

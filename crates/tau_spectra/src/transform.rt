@@ -1,60 +1,46 @@
-// The transform over its table and a scratch, which a block makes once and lends to each of its transforms; and a window that slides. An
-// inverse gives one half of its samples, and how many of all 512 went over.
+// The transform with its table and its scratch, made once a block. An inverse gives one half of its samples, and how many of all 512 went
+// over.
 ghost use Rattle.std.specs.Prelude.{◌≡◌, length, take};
 ghost use Rattle.trig.specs.Tables.{recombination};
 ghost use Rattle.fft.specs.Calls.{spectrum_of, samples_of, overs_of};
-ghost use Rattle.tau_spectra.specs.Windows.{slid};
 ghost use Rattle.tau_spectra.specs.Windows.{latter};
 
-pub fn spectrum(table: &[f64; 514], scratch: &mut [f64; 1024], window: &[f32], bins: &mut [f64])
-    requires table_value { table.now ≡ recombination }
-    requires window_len { (length window.now ≡ 512) × (length bins.old ≡ 514) }
-    ensures { bins.new ≡ spectrum_of window.now }
-{
-    fft::forward_with(table, scratch, window, bins);
+// What the scratch holds between two transforms is open.
+pub struct Transform {
+    table: [f64; 514],
+    scratch: [f64; 1024],
+    ghost is_table: { table ≡ recombination },
 }
 
-pub fn first_half(
-    table: &[f64; 514],
-    scratch: &mut [f64; 1024],
-    bins: &[f64; 514],
-    samples: &mut [f32],
-) -> u32
-    requires table_value { table.now ≡ recombination }
-    requires samples_len { length samples.old ≡ 256 }
-    ensures samples_after { samples.new ≡ take 256 (samples_of bins.now) }
-    ensures value { result ≡ overs_of bins.now }
-{
-    let inverted = fft::inverse_half_with(table, scratch, bins, false, samples);
-    inverted.overs as u32
-}
-
-pub fn later_half(
-    table: &[f64; 514],
-    scratch: &mut [f64; 1024],
-    bins: &[f64; 514],
-    samples: &mut [f32; 256],
-) -> u32
-    requires { table.now ≡ recombination }
-    ensures samples_after { samples.new ≡ latter (samples_of bins.now) }
-    ensures value { result ≡ overs_of bins.now }
-{
-    let inverted = fft::inverse_half_with(table, scratch, bins, true, samples);
-    inverted.overs as u32
-}
-
-pub fn slide(w: &mut [f32], b: &[f32])
-    requires { (length w.old ≡ 512) × (length b.now ≡ 256) }
-    ensures { w.new ≡ slid w.old b.now }
-{
-    let mut i = 0usize;
-    while i < 256 {
-        w[i] = w[256 + i];
-        i += 1;
+impl Transform {
+    pub fn new() -> Transform {
+        Transform {
+            table: trig::recombination(),
+            scratch: [0.0f64; 1024],
+        }
     }
-    let mut j = 0usize;
-    while j < 256 {
-        w[256 + j] = b[j];
-        j += 1;
+
+    pub fn spectrum(&mut self, window: &[f32; 512], bins: &mut [f64])
+        requires { length bins.old ≡ 514 }
+        ensures { bins.new ≡ spectrum_of window.now }
+    {
+        fft::forward_with(&self.table, &mut self.scratch, window, bins);
+    }
+
+    pub fn first_half(&mut self, bins: &[f64; 514], samples: &mut [f32]) -> u32
+        requires { length samples.old ≡ 256 }
+        ensures samples_after { samples.new ≡ take 256 (samples_of bins.now) }
+        ensures overs { result ≡ overs_of bins.now }
+    {
+        let inverted = fft::inverse_half_with(&self.table, &mut self.scratch, bins, false, samples);
+        inverted.overs as u32
+    }
+
+    pub fn later_half(&mut self, bins: &[f64; 514], samples: &mut [f32; 256]) -> u32
+        ensures samples_after { samples.new ≡ latter (samples_of bins.now) }
+        ensures overs { result ≡ overs_of bins.now }
+    {
+        let inverted = fft::inverse_half_with(&self.table, &mut self.scratch, bins, true, samples);
+        inverted.overs as u32
     }
 }

@@ -5,7 +5,8 @@ ghost use Rattle.tau_state.specs.Lent.{suppressor_of};
 ghost use Rattle.tau_suppressor.specs.Suppressor.{powered, target_of, gain_of, gained, span_of, sum_from, average_of, averaged, shaped, suppressed};
 
 use tau_spectra::bins::{get, power, put};
-use tau_spectra::transform::{later_half, slide, spectrum};
+use tau_spectra::lent::{later_half, spectrum};
+use tau_spectra::windows::slide;
 use tau_state::sums::smooth;
 
 const SUPPRESSION_SMOOTHING: f64 = 0.7;

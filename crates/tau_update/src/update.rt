@@ -8,10 +8,11 @@ ghost use Rattle.tau_update.specs.Lent.{updated_of, verdict_on};
 ghost use Rattle.tau_update.specs.Update.{factor_of, rate_of, rates_of, means_of, gradient_of, constrained, stepped, finite_to, framed, learnt_to, updated};
 
 use complex::Complex;
-use tau_clears::clears::diverge_shadow;
+use tau_clears::lent::diverge_shadow;
 use tau_spectra::bins::{get, put};
 use tau_spectra::ring::slot_of;
-use tau_spectra::transform::{first_half, slide, spectrum};
+use tau_spectra::lent::{first_half, spectrum};
+use tau_spectra::windows::slide;
 use tau_state::state::Paths;
 use tau_state::sums::smooth;
 

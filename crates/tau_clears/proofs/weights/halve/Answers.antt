@@ -1,19 +1,15 @@
-use mathlib.Core.Path.{◌∙◌}
-use native.Mathlib.Omega.{arith}
+use Rattle.std.proofs.Common.{rules, arith, ◌∙◌}
 use Rattle.laws.specs.Loops.{loops, over-whole}
 use Rattle.laws.specs.Readings.{over-map}
-use Rattle.tau_clears.specs.Weights.{cleared, halved, leaked}
-use borrow.Author.Rules.{rules}
+use Rattle.tau_clears.specs.Weights.{halved}
 use Rattle.tau_clears.proofs.weights.halve.Goals as goal
 
-pub loop-i-init : goal.loop-i-init
-unfolding cleared halved leaked
-loop-i-init c = search (rules, loops)
+pub loop-weight-init : goal.loop-weight-init
+loop-weight-init c = search (rules, loops)
 
-pub loop-i-preserved : goal.loop-i-preserved
-unfolding cleared halved leaked
-loop-i-preserved c = search (rules, loops)
+pub loop-weight-preserved : goal.loop-weight-preserved
+loop-weight-preserved c = search (rules, loops)
 
 pub returns : goal.returns
-unfolding cleared halved leaked
-returns c = over-whole _ _ _ c.loop-i.invariant.2 (omega arith) ∙ over-map _ c.args.d.now
+unfolding halved
+returns c = over-whole _ _ _ c.loop-weight.invariant (omega arith) ∙ over-map _ c.args.weights.now

@@ -1,12 +1,8 @@
-use mathlib.Core.Path.{◌≡◌}
-use Prim.Native.Nat.{◌-◌, ◌≤◌}
-use lib.ListN.{length, get_or}
-use lib.Ieee.{nan, binary64, add, sub, mul}
+use Rattle.std.proofs.Common.{◌≡◌, get_or}
+use Rattle.std.specs.Float.{nan, binary64}
+use Rattle.std.specs.Float.Ieee.{add, sub, mul}
 use Rattle.laws.specs.Loops.{over}
 use Rattle.tau_clears.proofs.weights.leak_to.Given as goal
 
-abbrev pub invariant-loop-i : goal.invariant-loop-i
-invariant-loop-i l = (l.i ≤ length l.initial.d) × (length l.d ≡ length l.initial.d) × (l.d ≡ over l.i (λ k w. add binary64 w (mul binary64 l.leak (sub binary64 (get_or l.s k nan) w))) l.initial.d)
-
-abbrev pub decreases-loop-i : goal.decreases-loop-i
-decreases-loop-i l = length l.initial.d - l.i
+abbrev pub invariant-loop-k : goal.invariant-loop-k
+invariant-loop-k l = l.weights ≡ over l.k (λ k w. add binary64 w (mul binary64 l.leak (sub binary64 (get_or l.others k nan) w))) l.initial.weights

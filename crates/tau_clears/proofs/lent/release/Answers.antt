@@ -1,6 +1,6 @@
 use borrow.Author.Rules.{rules}
 use Rattle.tau_clears.specs.Clears.{released}
-use Rattle.tau_clears.proofs.clears.release.Goals as goal
+use Rattle.tau_clears.proofs.lent.release.Goals as goal
 
 pub returns : goal.returns
 unfolding released

@@ -1,6 +1,6 @@
 use Rattle.tau_clears.specs.Clears.{diverge_shadow}
 use borrow.Author.Rules.{rules}
-use Rattle.tau_clears.proofs.clears.diverge_shadow.Goals as goal
+use Rattle.tau_clears.proofs.lent.diverge_shadow.Goals as goal
 
 pub clear-requires : goal.clear-requires
 unfolding diverge_shadow

@@ -3,7 +3,7 @@ use borrow.Author.Rules.{rules}
 use Rattle.laws.specs.Choice.{pick}
 use Rattle.fft.specs.Calls.{half_of_samples}
 use Rattle.fft.proofs.Served.{half-tells}
-use Rattle.tau_spectra.proofs.transform.first_half.Goals as goal
+use Rattle.tau_spectra.proofs.lent.first_half.Goals as goal
 
 pub overflow_cast-result : goal.overflow_cast-result
 unfolding half_of_samples pick

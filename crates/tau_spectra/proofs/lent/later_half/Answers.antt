@@ -4,7 +4,7 @@ use Rattle.laws.specs.Choice.{pick}
 use Rattle.fft.specs.Calls.{half_of_samples}
 use Rattle.fft.proofs.Served.{half-tells}
 use Rattle.tau_spectra.specs.Windows.{latter}
-use Rattle.tau_spectra.proofs.transform.later_half.Goals as goal
+use Rattle.tau_spectra.proofs.lent.later_half.Goals as goal
 
 pub overflow_cast-result : goal.overflow_cast-result
 unfolding half_of_samples pick latter

@@ -1,6 +1,6 @@
 use Rattle.tau_clears.specs.Clears.{diverge_of, released}
 use borrow.Author.Rules.{rules}
-use Rattle.tau_clears.proofs.clears.diverge.Goals as goal
+use Rattle.tau_clears.proofs.lent.diverge.Goals as goal
 
 pub clear-requires : goal.clear-requires
 unfolding diverge_of released

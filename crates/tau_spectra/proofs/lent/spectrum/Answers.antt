@@ -2,7 +2,7 @@ use mathlib.Core.Path.{ap, ◌∙◌}
 use Rattle.fft.specs.Calls.{Wrote, spectrum_of}
 use Rattle.fft.proofs.Served.{forward-with-served}
 use borrow.Author.Rules.{rules}
-use Rattle.tau_spectra.proofs.transform.spectrum.Goals as goal
+use Rattle.tau_spectra.proofs.lent.spectrum.Goals as goal
 
 pub returns : goal.returns
 unfolding spectrum_of

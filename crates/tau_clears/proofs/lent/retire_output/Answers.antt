@@ -1,6 +1,6 @@
 use Rattle.tau_clears.specs.Clears.{retire_output, released}
 use borrow.Author.Rules.{rules}
-use Rattle.tau_clears.proofs.clears.retire_output.Goals as goal
+use Rattle.tau_clears.proofs.lent.retire_output.Goals as goal
 
 pub halve-requires : goal.halve-requires
 unfolding retire_output released
