@@ -38,8 +38,7 @@ pub fn aspeyruni_narrow_kind(x: f64) -> u32
     ensures { NarrowKind x result }
 {
     let told = numbers::narrow_told(x);
-    let kind = told.kind;
-    numbers::kind_number(kind)
+    u32::from(told.kind)
 }
 
 // xs number by number into the first places of out, as many as both have. How many of them went over.

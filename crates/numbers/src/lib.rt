@@ -10,7 +10,7 @@ mod order;
 pub use bits::{from_bits, from_bits32, to_bits, to_bits32};
 pub use finite::{finite_or_zero, is_finite, is_finite32};
 pub use narrowing::{
-    HIGH_SQUARE, Kind, Narrowed, is_plain, kind_number, narrow, narrow_bits, narrow_told,
-    plain_squares, rounded, widen,
+    HIGH_SQUARE, Kind, Narrowed, is_plain, narrow, narrow_bits, narrow_told, plain_squares,
+    rounded, widen,
 };
 pub use order::{abs, abs32, clamp, lesser, max, max32, min};

@@ -16,14 +16,28 @@ pub const HIGH_SQUARE: f64 = 2.894802230932905e76;
 const SPLITTER: f64 = 536870913.0;
 
 // What narrowing did to a number: nothing, it rounded it, or it made a finite one infinite. A NaN or an infinity stays what it is.
-#[derive(Clone, Copy)]
+#[derive(Debug, Clone, Copy, PartialEq, Eq)]
 pub enum Kind {
     Exact,
     Rounded,
     Over,
 }
 
-#[derive(Clone, Copy)]
+// The kind as a number, for hosts that have no enum.
+impl From<Kind> for u32 {
+    ghost from_gives = { KindNumber };
+
+    #[tactic(auto, unfolding(crate::specs::Narrowing::kind_number))]
+    fn from(kind: Kind) -> u32 {
+        match kind {
+            Kind::Exact => 0,
+            Kind::Rounded => 1,
+            Kind::Over => 2,
+        }
+    }
+}
+
+#[derive(Debug, Clone, Copy, PartialEq)]
 pub struct Narrowed {
     pub value: f32,
     pub kind: Kind,
@@ -82,17 +96,6 @@ fn kind_of(x: f64, value: f32) -> Kind
         return Kind::Over;
     }
     Kind::Exact
-}
-
-// The kind as a number, for hosts that have no enum.
-pub fn kind_number(kind: Kind) -> u32
-    ensures { KindNumber kind result }
-{
-    match kind {
-        Kind::Exact => 0,
-        Kind::Rounded => 1,
-        Kind::Over => 2,
-    }
 }
 
 // Whether x is well inside the f32 normal range, so that it can go the short way, `rounded`: a size from 2^-126 up to 2^127.

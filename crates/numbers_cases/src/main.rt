@@ -115,8 +115,7 @@ fn counted_in(list: &[f64], out: &mut [f32], room: usize) -> u64
 // The narrowed number, and in the upper half what narrowing did.
 fn told(x: f64) -> u64 {
     let narrowed = numbers::narrow_told(x);
-    let kind = narrowed.kind;
-    wide(numbers::kind_number(kind)) << 32 | wide(numbers::to_bits32(narrowed.value))
+    wide(u32::from(narrowed.kind)) << 32 | wide(numbers::to_bits32(narrowed.value))
 }
 
 fn low(pattern: u64) -> u32 {

@@ -16,7 +16,7 @@ module _ {M : Type 1} {𝓤 : Ura M} (𝓛 : Logic 𝓤) (mem : Memory → SProp
   tables = (refl, refl, refl, refl)
 
   pub complexes : Complexes 𝓛 mem run
-  complexes = (refl, refl, refl, refl, refl, refl, refl)
+  complexes = (refl, refl, refl, refl, refl, refl, refl, refl, refl, refl)
 
   pub transforms : Transforms 𝓛 mem run
   transforms = (refl, refl, refl, refl, refl, refl, refl)

@@ -16,6 +16,7 @@ use contract.Monad.{Fun, fact}
 use denote.Triple.Entry.{Args, Res}
 use denote.Triple.Clauses.{Ended, Clauses, AtExit}
 use Rattle.numbers.specs.contracts as numbers
+use Rattle.numbers.specs.contracts.narrowing.U32FromKind as kind
 use Rattle.numbers.specs.Promises.{Abs, Min, Max, Clamp, Lesser, IsFinite, FiniteOrZero, Widen, Narrow, NarrowBits, NarrowTold, KindNumber, IsPlain, PlainSquares, Rounded}
 use Rattle.numbers.specs.Promises.{FromBits, FromBits32, ToBits, ToBits32}
 use Rattle.narrow_list.specs.contracts as narrow_list
@@ -23,6 +24,9 @@ use Rattle.narrow_list.specs.Promises.{NarrowInto, OversScaled}
 use Rattle.trig.specs.contracts as trig
 use Rattle.trig.specs.Promises.{DetSin, DetCos, Recombination}
 use Rattle.complex.specs.contracts.Complex as complex
+use Rattle.complex.specs.contracts.ComplexAdd as complex_add
+use Rattle.complex.specs.contracts.ComplexSub as complex_sub
+use Rattle.complex.specs.contracts.ComplexMul as complex_mul
 use Rattle.complex.specs.Promises.{New, Conj, Add, Sub, Mul, Scale}
 use Rattle.complex_fft.specs.contracts as complex_fft
 use Rattle.complex_fft.specs.Promises.{ComplexForward, ComplexInverse, ReversalTable, Butterfly}
@@ -68,6 +72,10 @@ module _ {M : Type 1} {𝓤 : Ura M} (𝓛 : Logic 𝓤) (mem : Memory → SProp
   abbrev pub Says : (T : Ended) → Clauses 𝓤 T → Saying T → Type 2
   Says T c p = c ≡ (λ κs a. record { ghost = Unit {0}; requires = λ _. emp 𝓤; ensures = λ _ r e. fact 𝓤 (p κs a r e) })
 
+  -- the same of a trait's method, where the trait asks for a fact that always holds
+  abbrev pub SaysByTrait : (T : Ended) → Clauses 𝓤 T → Saying T → Type 2
+  SaysByTrait T c p = c ≡ (λ κs a. record { ghost = Unit {0}; requires = λ _. fact 𝓤 (Unit {0}); ensures = λ _ r e. fact 𝓤 (p κs a r e) })
+
   -- p and q
   abbrev pub SaysBoth : (T : Ended) → Clauses 𝓤 T → Saying T → Saying T → Type 2
   SaysBoth T c p q =
@@ -94,7 +102,7 @@ module _ {M : Type 1} {𝓤 : Ura M} (𝓛 : Logic 𝓤) (mem : Memory → SProp
       × Says numbers.narrow.ended (numbers.narrow.clauses 𝓛 mem run) (λ _ (x, _) r _. Narrow x r)
       × Says numbers.narrow_bits.ended (numbers.narrow_bits.clauses 𝓛 mem run) (λ _ (x, _) r _. NarrowBits x r)
       × Says numbers.narrow_told.ended (numbers.narrow_told.clauses 𝓛 mem run) (λ _ (x, _) r _. NarrowTold x r)
-      × Says numbers.kind_number.ended (numbers.kind_number.clauses 𝓛 mem run) (λ _ (kind, _) r _. KindNumber kind r)
+      × Says kind.from.ended (kind.from.clauses 𝓛 mem run) (λ _ (kind, _) r _. KindNumber kind r)
       × Says numbers.is_plain.ended (numbers.is_plain.clauses 𝓛 mem run) (λ _ (x, _) r _. IsPlain x r)
       × Says numbers.plain_squares.ended (numbers.plain_squares.clauses 𝓛 mem run) (λ _ (least, (most, _)) r _. PlainSquares least most r)
       × Says numbers.rounded.ended (numbers.rounded.clauses 𝓛 mem run) (λ _ (x, _) r _. Rounded x r)
@@ -119,6 +127,9 @@ module _ {M : Type 1} {𝓤 : Ura M} (𝓛 : Logic 𝓤) (mem : Memory → SProp
   Complexes =
       Says complex.new.ended (complex.new.clauses 𝓛 mem run) (λ _ (re, (im, _)) r _. New re im r)
       × Says complex.conj.ended (complex.conj.clauses 𝓛 mem run) (λ _ (z, _) r _. Conj z r)
+      × SaysByTrait complex_add.add.ended (complex_add.add.clauses 𝓛 mem run) (λ _ (a, (b, _)) r _. Add a b r)
+      × SaysByTrait complex_sub.sub.ended (complex_sub.sub.clauses 𝓛 mem run) (λ _ (a, (b, _)) r _. Sub a b r)
+      × SaysByTrait complex_mul.mul.ended (complex_mul.mul.clauses 𝓛 mem run) (λ _ (a, (b, _)) r _. Mul a b r)
       × Says complex.add.ended (complex.add.clauses 𝓛 mem run) (λ _ (a, (b, _)) r _. Add a b r)
       × Says complex.sub.ended (complex.sub.clauses 𝓛 mem run) (λ _ (a, (b, _)) r _. Sub a b r)
       × Says complex.mul.ended (complex.mul.clauses 𝓛 mem run) (λ _ (a, (b, _)) r _. Mul a b r)

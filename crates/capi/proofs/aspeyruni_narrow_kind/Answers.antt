@@ -2,4 +2,4 @@
 use Rattle.capi.proofs.aspeyruni_narrow_kind.Goals as goal
 
 pub returns : goal.returns
-returns c = rw (c.kind_number.ensures, c.narrow_told-told.ensures)
+returns c = rw (c.from.ensures, c.narrow_told-told.ensures)
