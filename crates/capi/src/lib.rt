@@ -14,6 +14,7 @@ ghost use Rattle.rho.specs.Promises.{Create, Process, Flush, Reset};
 
 use fft::Inverted;
 pub use record_calls::{RecordRead, aspeyruni_record_read, aspeyruni_record_write};
+use refusal::number;
 use rho::{Answer, Started};
 use rho_state::state::RhoCanceller;
 pub use tau_calls::{
@@ -83,7 +84,7 @@ pub fn aspeyruni_rho_create(
 ) -> Started
     ensures { Create sample_rate tail_ms weights.old history.old result weights.new history.new }
 {
-    rho::create(sample_rate, tail_ms, weights, history)
+    Started::from(rho::create(sample_rate, tail_ms, weights, history))
 }
 
 pub fn aspeyruni_rho_process(
@@ -96,17 +97,24 @@ pub fn aspeyruni_rho_process(
 ) -> Answer
     ensures { Process (record { state = s; weights = weights.old; history = history.old }) near.now far.now out.old result weights.new history.new out.new }
 {
-    rho::process(s, weights, history, near, far, out)
+    let mut state = s;
+    let delivered = rho::process(&mut state, weights, history, near, far, out);
+    Answer::new(delivered, state)
 }
 
 pub fn aspeyruni_rho_flush(s: RhoCanceller, weights: &[f32], history: &[f32]) -> Answer
     ensures { Flush (record { state = s; weights = weights.now; history = history.now }) result }
 {
-    rho::flush(s, weights, history)
+    Answer::new(rho::flush(&s, weights, history), s)
 }
 
 pub fn aspeyruni_rho_reset(s: RhoCanceller, weights: &mut [f32], history: &mut [f32]) -> Started
     ensures { Reset (record { state = s; weights = weights.old; history = history.old }) result weights.new history.new }
 {
-    rho::reset(s, weights, history)
+    let mut state = s;
+    let done = rho::reset(&mut state, weights, history);
+    Started {
+        refusal: number(&done),
+        state,
+    }
 }

@@ -1,7 +1,7 @@
 -- A public function's contract is its promise, no less and no more: it asks for nothing, and it ensures the relation of specs/Promises at what
 -- the function is given, its answer and what it leaves. The contract is taken as the prover has it, so one that asks for something, that no
 -- longer cites its relation or that cites it at other values makes its line false. A function of capi has the very contract of the function
--- below it. Statements; proved in proofs/Contracts.antt.
+-- below it, or, where that one answers a Result, the relation at the numbers that C is answered. Statements; proved in proofs/Contracts.antt.
 --     f.ended, f.clauses      the signature of the function f and its contract, which the toolchain makes of src/
 --     λ _ (..) r (..). p      the parameters, one name for each; the answer; the parameters again, as the call leaves them; and what is said
 --     now b                   what the lent buffer b holds
@@ -36,6 +36,8 @@ use Rattle.rho.specs.contracts as rho
 use Rattle.rho_state.specs.declared.state.RhoCanceller.{RhoCanceller}
 use Rattle.rho_sample.specs.Sample as rho_sample
 use Rattle.rho.specs.Promises as rho_promises
+use Rattle.rho.specs.Calls.{started_of, answered_of}
+use Rattle.refusal.specs.Refusal.{number_in}
 use Rattle.tau.specs.contracts as tau
 use Rattle.tau_state.specs.declared.state.TauCanceller.{TauCanceller}
 use Rattle.tau_frame.specs.Pairs.{Engine}
@@ -162,12 +164,12 @@ module _ {M : Type 1} {𝓤 : Ura M} (𝓛 : Logic 𝓤) (mem : Memory → SProp
   abbrev pub Rho : Type 2
   Rho =
       Says rho.create.ended (rho.create.clauses 𝓛 mem run)
-      (λ _ (rate, (tail, (w, (h, _)))) r (_, (_, (w', (h', _)))). rho_promises.Create rate tail w.now h.now r w'.now h'.now)
+      (λ _ (rate, (tail, (w, (h, _)))) r (_, (_, (w', (h', _)))). rho_promises.Create rate tail w.now h.now (started_of r) w'.now h'.now)
       × Says rho.process.ended (rho.process.clauses 𝓛 mem run)
-      (λ _ (s, (w, (h, (near, (far, (out, _)))))) r (_, (w', (h', (_, (_, (out', _)))))). rho_promises.Process (rho_of s w.now h.now) near.now far.now out.now r w'.now h'.now out'.now)
-      × Says rho.flush.ended (rho.flush.clauses 𝓛 mem run) (λ _ (s, (w, (h, _))) r _. rho_promises.Flush (rho_of s w.now h.now) r)
+      (λ _ (s, (w, (h, (near, (far, (out, _)))))) r (s', (w', (h', (_, (_, (out', _)))))). rho_promises.Process (rho_of s.now w.now h.now) near.now far.now out.now (answered_of r s'.now) w'.now h'.now out'.now)
+      × Says rho.flush.ended (rho.flush.clauses 𝓛 mem run) (λ _ (s, (w, (h, _))) r _. rho_promises.Flush (rho_of s.now w.now h.now) (answered_of r s.now))
       × Says rho.reset.ended (rho.reset.clauses 𝓛 mem run)
-      (λ _ (s, (w, (h, _))) r (_, (w', (h', _))). rho_promises.Reset (rho_of s w.now h.now) r w'.now h'.now)
+      (λ _ (s, (w, (h, _))) r (s', (w', (h', _))). rho_promises.Reset (rho_of s.now w.now h.now) (record { refusal = number_in r; state = s'.now }) w'.now h'.now)
 
   -- TauCanceller: sh is the shadow, ou the output, xs the spectra and ps their powers
   abbrev pub Tau : Type 2
@@ -192,10 +194,13 @@ module _ {M : Type 1} {𝓤 : Ura M} (𝓛 : Logic 𝓤) (mem : Memory → SProp
       × (capi.aspeyruni_inverse.clauses 𝓛 mem run ≡ fft.inverse.clauses 𝓛 mem run)
       × (capi.aspeyruni_complex_forward.clauses 𝓛 mem run ≡ complex_fft.complex_forward.clauses 𝓛 mem run)
       × (capi.aspeyruni_complex_inverse.clauses 𝓛 mem run ≡ complex_fft.complex_inverse.clauses 𝓛 mem run)
-      × (capi.aspeyruni_rho_create.clauses 𝓛 mem run ≡ rho.create.clauses 𝓛 mem run)
-      × (capi.aspeyruni_rho_process.clauses 𝓛 mem run ≡ rho.process.clauses 𝓛 mem run)
-      × (capi.aspeyruni_rho_flush.clauses 𝓛 mem run ≡ rho.flush.clauses 𝓛 mem run)
-      × (capi.aspeyruni_rho_reset.clauses 𝓛 mem run ≡ rho.reset.clauses 𝓛 mem run)
+      × Says capi.aspeyruni_rho_create.ended (capi.aspeyruni_rho_create.clauses 𝓛 mem run)
+      (λ _ (rate, (tail, (w, (h, _)))) r (_, (_, (w', (h', _)))). rho_promises.Create rate tail w.now h.now r w'.now h'.now)
+      × Says capi.aspeyruni_rho_process.ended (capi.aspeyruni_rho_process.clauses 𝓛 mem run)
+      (λ _ (s, (w, (h, (near, (far, (out, _)))))) r (_, (w', (h', (_, (_, (out', _)))))). rho_promises.Process (rho_of s w.now h.now) near.now far.now out.now r w'.now h'.now out'.now)
+      × Says capi.aspeyruni_rho_flush.ended (capi.aspeyruni_rho_flush.clauses 𝓛 mem run) (λ _ (s, (w, (h, _))) r _. rho_promises.Flush (rho_of s w.now h.now) r)
+      × Says capi.aspeyruni_rho_reset.ended (capi.aspeyruni_rho_reset.clauses 𝓛 mem run)
+      (λ _ (s, (w, (h, _))) r (_, (w', (h', _))). rho_promises.Reset (rho_of s w.now h.now) r w'.now h'.now)
       × (capi.aspeyruni_tau_create.clauses 𝓛 mem run ≡ tau.create.clauses 𝓛 mem run)
       × Says capi.aspeyruni_tau_process.ended (capi.aspeyruni_tau_process.clauses 𝓛 mem run)
       (λ _ (s, (sh, (ou, (xs, (ps, (near, (far, (out, _)))))))) r (_, (sh', (ou', (xs', (ps', (_, (_, (out', _)))))))). TauProcess (tau_of s sh.now ou.now xs.now ps.now) near.now far.now out.now r sh'.now ou'.now xs'.now ps'.now out'.now)

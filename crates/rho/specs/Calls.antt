@@ -1,6 +1,8 @@
 -- What each call leaves: its answer, the two lent buffers and the output buffer. Definitions only.
-use Rattle.std.specs.Prelude.{ℕ, List, [], ◌++◌, eqb, Float, length, drop, replicate}
+use Rattle.std.specs.Prelude.{ℕ, List, [], ◌++◌, eqb, Float, Result, Ok, Err, length, drop, replicate}
 use Rattle.laws.specs.Choice.{pick}
+use Rattle.refusal.specs.declared.Refusal.{Refusal}
+use Rattle.refusal.specs.Refusal.{number_of}
 use Rattle.numbers.specs.Finite.{plus}
 use Rattle.rho_state.specs.declared.state.RhoCanceller.{RhoCanceller}
 use Rattle.rho.specs.declared.calls.Started.{Started}
@@ -49,6 +51,15 @@ reset_of e =
 -- "returns its number, zero delivered and the state as given"
 abbrev pub answer_of : ℕ → ℕ → RhoCanceller → Answer
 answer_of refusal delivered s = record { refusal = refusal; delivered = delivered; state = s; report = report_of s }
+
+-- what C is answered where `create` answers this, and where `process` or `flush` answers this and leaves the state s
+abbrev pub started_of : Result RhoCanceller Refusal → Started
+started_of (Ok s) = record { refusal = 0; state = s }
+started_of (Err refusal) = record { refusal = number_of refusal; state = empty_of }
+
+abbrev pub answered_of : Result ℕ Refusal → RhoCanceller → Answer
+answered_of (Ok delivered) s = answer_of 0 delivered s
+answered_of (Err refusal) s = answer_of (number_of refusal) 0 s
 
 -- a call that changes nothing
 abbrev pub untouched_of : ℕ → Engine → List Float → Called

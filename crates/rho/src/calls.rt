@@ -1,15 +1,18 @@
-// The public calls. A state goes in by value and comes back; the buffers are lent. A refused call writes nothing.
+// The public calls. The host keeps the state, and lends it with the buffers. A refused call writes nothing.
+#![tactic(auto, using(std::proofs::lemmas::Bool::Decides::nat_tests, rho_state::proofs::Accepted::accepted), unfolding(laws::specs::Choice::pick, crate::specs::Calls::create_of, crate::specs::Calls::reset_of, crate::specs::Calls::flush_of, crate::specs::Calls::process_of))]
+
 ghost use Rattle.std.specs.Prelude.{◌≡◌, ◌++◌, ◌<◌, ◌≤◌, length, drop};
+ghost use Rattle.refusal.specs.Refusal.{number_in};
 ghost use Rattle.rho.specs.Pairs.{pairs_of};
-ghost use Rattle.rho.specs.Calls.{answer_of};
+ghost use Rattle.rho.specs.Calls.{started_of, answered_of};
 ghost use Rattle.rho.specs.Promises.{Create, Process, Flush, Reset};
 
+use refusal::{Refusal, number};
 use rho_sample::sample::step;
-use rho_state::refusals::{create_refusal, process_refusal, state_refusal};
-use rho_state::state::{Report, RhoCanceller, empty, fresh, hangover_of, report_of};
-use rho_taps::update::clear;
+use rho_state::refusals::{check_create, check_process, check_state};
+use rho_state::state::{Report, RhoCanceller, hangover_of};
 
-// What creation and reset answer.
+// What C is answered by creation and reset.
 #[repr(C)]
 #[derive(Clone, Copy)]
 pub struct Started {
@@ -17,7 +20,19 @@ pub struct Started {
     pub state: RhoCanceller,
 }
 
-// What process and flush answer.
+// A refused creation has no state to give back.
+impl From<Result<RhoCanceller, Refusal>> for Started {
+    ghost from_gives = { λ created started. started ≡ started_of created };
+
+    fn from(created: Result<RhoCanceller, Refusal>) -> Started {
+        Started {
+            refusal: number(&created),
+            state: created.unwrap_or_default(),
+        }
+    }
+}
+
+// What C is answered by process and flush.
 #[repr(C)]
 #[derive(Clone, Copy)]
 pub struct Answer {
@@ -27,109 +42,97 @@ pub struct Answer {
     pub report: Report,
 }
 
-pub fn create(sample_rate: u32, tail_ms: u32, weights: &mut [f32], history: &mut [f32]) -> Started
-    ensures { Create sample_rate tail_ms weights.old history.old result weights.new history.new }
-{
-    let refusal = create_refusal(sample_rate, tail_ms, weights.len(), history.len());
-    if refusal != 0 {
-        return Started {
-            refusal,
-            state: empty(),
-        };
-    }
-    let taps = weights.len();
-    clear(weights);
-    clear(history);
-    Started {
-        refusal: 0,
-        state: fresh(taps, hangover_of(sample_rate), 0),
+impl Answer {
+    pub fn new(delivered: Result<usize, Refusal>, state: RhoCanceller) -> Answer
+        ensures { result ≡ answered_of delivered state }
+    {
+        Answer {
+            refusal: number(&delivered),
+            delivered: delivered.unwrap_or(0),
+            state,
+            report: state.report(),
+        }
     }
 }
 
-pub fn reset(s: RhoCanceller, weights: &mut [f32], history: &mut [f32]) -> Started
-    ensures { Reset (record { state = s; weights = weights.old; history = history.old }) result weights.new history.new }
+pub fn create(
+    sample_rate: u32,
+    tail_ms: u32,
+    weights: &mut [f32],
+    history: &mut [f32],
+) -> Result<RhoCanceller, Refusal>
+    ensures { Create sample_rate tail_ms weights.old history.old (started_of result) weights.new history.new }
 {
-    let refusal = state_refusal(s, weights.len(), history.len());
-    if refusal != 0 {
-        return Started { refusal, state: s };
-    }
-    clear(weights);
-    clear(history);
-    Started {
-        refusal: 0,
-        state: fresh(s.taps, s.hangover_samples, s.divergence_resets),
-    }
+    check_create(sample_rate, tail_ms, weights.len(), history.len())?;
+    weights.fill(0.0);
+    history.fill(0.0);
+    Ok(RhoCanceller::fresh(weights.len(), hangover_of(sample_rate), 0))
+}
+
+pub fn reset(
+    state: &mut RhoCanceller,
+    weights: &mut [f32],
+    history: &mut [f32],
+) -> Result<(), Refusal>
+    ensures { Reset (record { state = state.old; weights = weights.old; history = history.old }) (record { refusal = number_in result; state = state.new }) weights.new history.new }
+{
+    check_state(state, weights.len(), history.len())?;
+    weights.fill(0.0);
+    history.fill(0.0);
+    *state = RhoCanceller::fresh(state.taps, state.hangover_samples, state.divergence_resets);
+    Ok(())
 }
 
 // Delivers nothing, since every pair is answered at once, and takes no output buffer. It still tests what it is given.
-pub fn flush(s: RhoCanceller, weights: &[f32], history: &[f32]) -> Answer
-    ensures { Flush (record { state = s; weights = weights.now; history = history.now }) result }
+pub fn flush(state: &RhoCanceller, weights: &[f32], history: &[f32]) -> Result<usize, Refusal>
+    ensures { Flush (record { state = state.now; weights = weights.now; history = history.now }) (answered_of result state.now) }
 {
-    answer_of(state_refusal(s, weights.len(), history.len()), 0, s)
+    check_state(state, weights.len(), history.len()).map(|()| 0)
 }
 
-fn answer_of(refusal: u32, delivered: usize, s: RhoCanceller) -> Answer
-    ensures { result ≡ answer_of refusal delivered s }
-{
-    Answer {
-        refusal,
-        delivered,
-        state: s,
-        report: report_of(s),
-    }
-}
-
-// Every pair in turn. The state is small, so it goes by value from pair to pair.
+// Every pair in turn.
 fn run(
-    s: RhoCanceller,
+    state: &mut RhoCanceller,
     weights: &mut [f32],
     history: &mut [f32],
     near: &[f32],
     far: &[f32],
     out: &mut [f32],
-) -> RhoCanceller
-    requires weights_len { length weights.old ≡ s.taps }
-    requires history_len { length history.old ≡ s.taps }
-    requires pos_lt_taps { s.pos < s.taps }
-    requires near_len { length near.now ≡ length far.now }
+)
+    requires weights_len { length weights.old ≡ state.old.taps }
+    requires history_len { length history.old ≡ state.old.taps }
+    requires pos_lt_taps { state.old.pos < state.old.taps }
+    requires far_len { length near.now ≡ length far.now }
     requires near_in_bounds { length near.now ≤ length out.old }
-    ensures history_after { record { state = result; weights = weights.new; history = history.new } ≡ (pairs_of (record { state = s; weights = weights.old; history = history.old }) near.now far.now).engine }
-    ensures out_after { out.new ≡ (pairs_of (record { state = s; weights = weights.old; history = history.old }) near.now far.now).samples ++ drop (length near.now) out.old }
+    ensures engine_after { record { state = state.new; weights = weights.new; history = history.new } ≡ (pairs_of (record { state = state.old; weights = weights.old; history = history.old }) near.now far.now).engine }
+    ensures out_after { out.new ≡ (pairs_of (record { state = state.old; weights = weights.old; history = history.old }) near.now far.now).samples ++ drop (length near.now) out.old }
 {
-    let mut st = s;
-    let mut k = 0usize;
-    while k < near.len() {
+    for k in 0..near.len() {
         let x = numbers::finite_or_zero(near[k]);
         let y = numbers::finite_or_zero(far[k]);
-        let d = step(st, weights, history, x, y);
-        out[k] = d.output;
-        st = d.state;
-        k += 1;
+        out[k] = step(state, weights, history, x, y);
     }
-    st
 }
 
+// How many samples it delivered: one for each pair.
 pub fn process(
-    s: RhoCanceller,
+    state: &mut RhoCanceller,
     weights: &mut [f32],
     history: &mut [f32],
     near: &[f32],
     far: &[f32],
     out: &mut [f32],
-) -> Answer
-    ensures { Process (record { state = s; weights = weights.old; history = history.old }) near.now far.now out.old result weights.new history.new out.new }
+) -> Result<usize, Refusal>
+    ensures { Process (record { state = state.old; weights = weights.old; history = history.old }) near.now far.now out.old (answered_of result state.new) weights.new history.new out.new }
 {
-    let refusal = process_refusal(
-        s,
+    check_process(
+        state,
         weights.len(),
         history.len(),
         near.len(),
         far.len(),
         out.len(),
-    );
-    if refusal != 0 {
-        return answer_of(refusal, 0, s);
-    }
-    let t = run(s, weights, history, near, far, out);
-    answer_of(0, near.len(), t)
+    )?;
+    run(state, weights, history, near, far, out);
+    Ok(near.len())
 }

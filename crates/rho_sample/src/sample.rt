@@ -1,9 +1,11 @@
 // One pair, as `step` in rho.rs.
+#![tactic(auto, unfolding(laws::specs::Choice::pick, crate::specs::Sample::loud_of, crate::specs::Sample::freeze_of, crate::specs::Sample::smooth_of))]
+
 ghost use Rattle.std.specs.Prelude.{◌≡◌, ◌<◌, length};
 ghost use Rattle.std.specs.Float.{binary64};
 ghost use Rattle.std.specs.Float.Ieee.{sub};
 ghost use Rattle.rho_taps.specs.Ring.{estimate_of, window_energy_of};
-ghost use Rattle.rho_sample.specs.Sample.{loud_of, freeze_of, smooth_of, after_of, step_of};
+ghost use Rattle.rho_sample.specs.Sample.{loud_of, freeze_of, smooth_of, step_of};
 
 use rho_state::state::RhoCanceller;
 use rho_taps::peak::peak_at;
@@ -13,13 +15,6 @@ use rho_taps::update::adapt;
 const GEIGEL_THRESHOLD: f32 = 0.5;
 
 const ERLE_SMOOTHING: f64 = 0.999;
-
-// What the pair leaves besides the buffers.
-#[derive(Clone, Copy)]
-pub struct Delivered {
-    pub state: RhoCanceller,
-    pub output: f32,
-}
 
 // What the filter makes of the pair.
 #[derive(Clone, Copy)]
@@ -55,10 +50,7 @@ fn freeze(hangover: u32, remaining: u32, loud: bool) -> u32
     if loud {
         return hangover;
     }
-    if 0 < remaining {
-        return remaining - 1;
-    }
-    0
+    remaining.saturating_sub(1)
 }
 
 fn smooth(power: f64, x: f32) -> f64
@@ -68,47 +60,27 @@ fn smooth(power: f64, x: f32) -> f64
     ERLE_SMOOTHING * power + (1.0 - ERLE_SMOOTHING) * (wide * wide)
 }
 
-fn after(
-    s: RhoCanceller,
-    pos: usize,
-    freeze: u32,
-    near: f32,
-    output: f32,
-    resets: u64,
-) -> RhoCanceller
-    ensures { result ≡ after_of s pos freeze near output resets }
-{
-    RhoCanceller {
-        taps: s.taps,
-        pos,
-        hangover_samples: s.hangover_samples,
-        hangover_remaining: freeze,
-        near_power: smooth(s.near_power, near),
-        residual_power: smooth(s.residual_power, output),
-        divergence_resets: resets,
-    }
-}
-
+// The pair's output. The state and both buffers are then those after the pair.
 pub fn step(
-    s: RhoCanceller,
+    state: &mut RhoCanceller,
     weights: &mut [f32],
     history: &mut [f32],
     near: f32,
     far: f32,
-) -> Delivered
-    requires weights_len { length weights.old ≡ s.taps }
-    requires history_len { length history.old ≡ s.taps }
-    requires pos_lt_taps { s.pos < s.taps }
-    ensures { record { engine = record { state = result.state; weights = weights.new; history = history.new }; output = result.output } ≡ step_of (record { state = s; weights = weights.old; history = history.old }) near far }
+) -> f32
+    requires weights_len { length weights.old ≡ state.old.taps }
+    requires history_len { length history.old ≡ state.old.taps }
+    requires pos_lt_taps { state.old.pos < state.old.taps }
+    ensures { record { engine = record { state = state.new; weights = weights.new; history = history.new }; output = result } ≡ step_of (record { state = state.old; weights = weights.old; history = history.old }) near far }
 {
-    let pos = next_position(s.pos, s.taps);
+    let pos = next_position(state.pos, state.taps);
     history[pos] = far;
     let judged = judge(near, weights, history, pos);
     let output = numbers::narrow(judged.error);
     let fine = numbers::is_finite32(output);
     let loud = is_loud(near, peak_at(history, pos));
-    let left = freeze(s.hangover_samples, s.hangover_remaining, loud);
-    let resets = adapt(
+    let left = freeze(state.hangover_samples, state.hangover_remaining, loud);
+    state.divergence_resets = adapt(
         fine,
         left,
         judged.error,
@@ -116,11 +88,12 @@ pub fn step(
         history,
         pos,
         weights,
-        s.divergence_resets,
+        state.divergence_resets,
     );
     let delivered = numbers::finite_or_zero(output);
-    Delivered {
-        state: after(s, pos, left, near, delivered, resets),
-        output: delivered,
-    }
+    state.pos = pos;
+    state.hangover_remaining = left;
+    state.near_power = smooth(state.near_power, near);
+    state.residual_power = smooth(state.residual_power, delivered);
+    delivered
 }

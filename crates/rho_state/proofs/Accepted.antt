@@ -1,6 +1,7 @@
 -- What a call may count on once it is not refused. Assumes nothing.
 --     accepted-state, accepted-pairs     refusal 0 says that the state is in range, the buffers fit, and the pairs have room
 --     accepted-settings                  the same of creation
+--     accepted                           the three, for `using`
 use mathlib.Core.Path.{◌≡◌}
 use mathlib.Core.Bool.{true, false, ◌&&◌}
 use Prim.Native.Nat.{ℕ, ◌*◌, ◌/◌, ◌≤◌, ◌<◌}
@@ -108,3 +109,9 @@ accepted-settings r t w h =
     (λ z _. let p = both (leb 8000 r) _ a in let q = both (leb r 48000) _ p.1 in record { slow = leb-true r 48000 q.0; some = taps-some r t; sized = sized-is (taps_of r t) w h z })
     (λ _ e. absurd (omega (arith, e))))
     (λ _ e. absurd (omega (arith, e)))
+
+pub ruleset accepted = (
+  accepted-state,
+  accepted-pairs,
+  accepted-settings,
+)

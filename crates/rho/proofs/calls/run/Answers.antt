@@ -1,38 +1,19 @@
-use mathlib.Core.Path.{refl, sym, ◌∙◌, ap, subst}
-use Prim.Native.Nat.{ℕ, ◌<◌}
-use native.Mathlib.Omega.{arith}
-use lib.ListN.{length-set}
+use Rattle.std.proofs.Common.{ℕ, ◌<◌, ◌∙◌, sym, ap, subst, arith}
 use Rattle.rho_sample.specs.Sample.{Stepped}
-use Rattle.rho.proofs.Going.{going_start, going-turn, going_end, step-taps, step-ring}
+use Rattle.rho.proofs.Going.{going-turn, going_end, step-taps, step-ring}
 use Rattle.rho.proofs.calls.run.Goals as goal
 
-pub loop-k-init : goal.loop-k-init
-loop-k-init c = (omega arith, omega arith, omega arith, omega arith, refl, refl, going_start _ _ _ _)
-
-pub bounds-far-k : goal.bounds-far-k
-bounds-far-k c = omega arith
-
-pub step-d-requires : goal.step-d-requires
-step-d-requires c = omega arith
-
-pub bounds-out-k : goal.bounds-out-k
-bounds-out-k c = omega arith
-
 pub loop-k-preserved : goal.loop-k-preserved
-loop-k-preserved c = let q = rw (c.finite_or_zero-x.ensures, c.finite_or_zero-y.ensures) at c.step-d.ensures in
-    let taps = ap (λ (z : Stepped). z.engine.state.taps) c.step-d.ensures ∙ step-taps _ _ _ in
-    let ring = subst (λ (p : ℕ). p < c.loop-k.st.taps) (sym (ap (λ (z : Stepped). z.engine.state.pos) c.step-d.ensures)) (step-ring _ _ _ c.loop-k.invariant.3) in (
-      omega arith,
-      omega (arith, taps, c.loop-k.invariant.1),
-      omega (arith, taps, c.loop-k.invariant.2),
-      subst (λ (n : ℕ). c.step-d.result.state.pos < n) (sym taps) ring,
-      taps ∙ c.loop-k.invariant.4,
-      simp length-set c.loop-k.invariant.5,
-      going-turn c.loop-k.invariant.6 (omega arith) (omega arith) (omega arith) _ _ (ap (λ (z : Stepped). z.engine) q) (ap (λ (z : Stepped). z.output) q),
-    )
+loop-k-preserved c =
+    let q = rw (c.finite_or_zero-x.ensures, c.finite_or_zero-y.ensures) at c.step.ensures in
+    let taps = ap (λ (z : Stepped). z.engine.state.taps) c.step.ensures ∙ step-taps _ _ _ in
+    let ring = subst (λ (p : ℕ). p < c.loop-k.state.taps) (sym (ap (λ (z : Stepped). z.engine.state.pos) c.step.ensures)) (step-ring _ _ _ c.loop-k.invariant.pos_lt_taps) in
+    record {
+      weights_len = omega (arith, taps, c.loop-k.invariant.weights_len);
+      history_len = omega (arith, taps, c.loop-k.invariant.history_len);
+      pos_lt_taps = subst (λ (n : ℕ). c.step.new.state.pos < n) (sym taps) ring;
+      going = going-turn c.loop-k.invariant.going (omega arith) (omega arith) (omega arith) _ _ (ap (λ (z : Stepped). z.engine) q) (ap (λ (z : Stepped). z.output) q);
+    }
 
 pub returns : goal.returns
-returns c = record {
-  history_after = let q = going_end c.loop-k.invariant.6 (omega arith) in q.0;
-  out_after = let q = going_end c.loop-k.invariant.6 (omega arith) in q.1;
-}
+returns c = let q = going_end c.loop-k.invariant.going (omega arith) in record { engine_after = q.0; out_after = q.1 }

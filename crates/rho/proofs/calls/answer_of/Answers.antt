@@ -1,4 +1,0 @@
-use Rattle.rho.proofs.calls.answer_of.Goals as goal
-
-pub returns : goal.returns
-returns c = rw c.report_of.ensures
