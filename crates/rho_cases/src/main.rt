@@ -24,20 +24,13 @@ mod made;
 
 ghost use Rattle.std.specs.Prelude.{◌≡◌, length};
 
-use calls::{Found, Got, called};
+use calls::{Got, called};
 use cases::Tally;
 use rho_state::state::RhoCanceller;
 use std::io::Write;
 
 // A letter, 22 times a blank and 16 digits, and the line's end.
 const SIZE: usize = 376;
-
-// What a line leaves to the next one, besides the buffers.
-#[derive(Clone, Copy)]
-pub struct Turn {
-    pub tally: Tally,
-    pub state: RhoCanceller,
-}
 
 // A proved loop has to end, and nothing says that the input does. So it counts its turns down, from a
 // number that no list uses up.
@@ -47,66 +40,48 @@ fn main(rt: HostRuntime) {
     let mut block = [0u8; 65536];
     let mut weights = [0.0f32; 8200];
     let mut history = [0.0f32; 8200];
-    let mut state = nothing();
+    let mut state = RhoCanceller::default();
     let mut source = cases::fill(&mut input, SIZE, &mut block);
     let mut tally = cases::none();
     let mut turns = u64::MAX;
     while turns > 0 && SIZE <= source.left {
         let at = source.at;
         let end = at + SIZE;
-        let turn = judged(
+        tally = judged(
             &mut output,
             tally,
-            state,
+            &mut state,
             &block[at..end],
             &mut weights,
             &mut history,
         );
-        tally = turn.tally;
-        state = turn.state;
         source = cases::next(&mut input, source, SIZE, &mut block);
         turns -= 1;
     }
     cases::verdict(&mut output, b"rho_cases", tally, source.left);
 }
 
-// Before the first creation.
-fn nothing() -> RhoCanceller {
-    RhoCanceller {
-        taps: 0,
-        pos: 0,
-        hangover_samples: 0,
-        hangover_remaining: 0,
-        near_power: 0.0,
-        residual_power: 0.0,
-        divergence_resets: 0,
-    }
-}
-
-// The tally with one line more, and the state after it.
+// The tally with one line more. The state and the buffers are then those after it.
 fn judged<W: Write>(
     output: &mut W,
     tally: Tally,
-    state: RhoCanceller,
+    state: &mut RhoCanceller,
     line: &[u8],
     weights: &mut [f32],
     history: &mut [f32],
-) -> Turn
+) -> Tally
     requires line_len { length line.now ≡ 376 }
     requires weights_len { length weights.old ≡ 8200 }
     requires history_len { length history.old ≡ 8200 }
 {
     if !cases::is_case(line) {
-        return refused(output, tally, state);
+        return cases::refuse(output, tally);
     }
     let lent = cases::field(line, 6);
     let taps = cases::high(lent) as usize;
     let lags = cases::low(lent) as usize;
-    if 8200 < taps {
-        return refused(output, tally, state);
-    }
-    if 8200 < lags {
-        return refused(output, tally, state);
+    if weights.len() < taps || history.len() < lags {
+        return cases::refuse(output, tally);
     }
     taken(
         output,
@@ -122,29 +97,23 @@ fn judged<W: Write>(
 fn taken<W: Write>(
     output: &mut W,
     tally: Tally,
-    state: RhoCanceller,
+    state: &mut RhoCanceller,
     line: &[u8],
     weights: &mut [f32],
     history: &mut [f32],
-) -> Turn
+) -> Tally
     requires { length line.now ≡ 376 }
 {
-    let Found::All(got) = called(line, state, weights, history) else {
-        return refused(output, tally, state);
+    let Some(got) = called(line, state, weights, history) else {
+        return cases::refuse(output, tally);
     };
-    let after = got.state;
-    let numbers = numbers_of(got, cases::hash_of32(weights), cases::hash_of32(history));
-    Turn {
-        tally: compared(output, tally, line, numbers),
-        state: after,
-    }
-}
-
-fn refused<W: Write>(output: &mut W, tally: Tally, state: RhoCanceller) -> Turn {
-    Turn {
-        tally: cases::refuse(output, tally),
+    let numbers = numbers_of(
+        got,
         state,
-    }
+        cases::hash_of32(weights),
+        cases::hash_of32(history),
+    );
+    compared(output, tally, line, numbers)
 }
 
 // One judgement a line, by the first number that differs.
@@ -161,35 +130,25 @@ fn compared<W: Write>(output: &mut W, tally: Tally, line: &[u8], got: [u64; 13])
 }
 
 // Fields 9 to 21.
-fn numbers_of(got: Got, weights: u64, history: u64) -> [u64; 13] {
-    let s = got.state;
-    let report = got.report;
+fn numbers_of(got: Got, s: &RhoCanceller, weights: u64, history: u64) -> [u64; 13] {
     [
         halves(got.refusal, got.delivered as u64),
-        report.divergence_resets,
-        flag(report.double_talk),
+        got.report.divergence_resets,
+        u64::from(got.report.double_talk),
         s.taps as u64,
         s.pos as u64,
-        halves(s.hangover_samples, wide(s.hangover_remaining)),
+        halves(s.hangover_samples, u64::from(s.hangover_remaining)),
         numbers::to_bits(s.near_power),
         numbers::to_bits(s.residual_power),
         s.divergence_resets,
         weights,
         history,
-        got.hash,
-        halves(got.first, wide(got.last)),
+        got.output.hash,
+        halves(got.output.first, u64::from(got.output.last)),
     ]
 }
 
 // A number that is no half counts from the left, which then differs.
 fn halves(high: u32, low: u64) -> u64 {
-    (wide(high) << 32) ^ low
-}
-
-fn wide(n: u32) -> u64 {
-    n as u64
-}
-
-fn flag(is_so: bool) -> u64 {
-    if is_so { 1 } else { 0 }
+    (u64::from(high) << 32) ^ low
 }
