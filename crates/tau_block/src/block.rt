@@ -11,8 +11,8 @@ ghost use Rattle.tau_block.specs.Lent.{filtered_of, judgement_of, delivered_of, 
 
 use tau_detector::detector::double_talk_block;
 use tau_filter::filter::{Checked, output_estimate, shadow_estimate};
-use tau_guard::guard::guard;
-use tau_guard::powers::host_powers;
+use tau_guard::lent::guard;
+use tau_guard::lent::host_powers;
 use tau_paths::paths::{Compared, Conditions, compare};
 use tau_state::report::Told;
 use tau_state::state::{DTD_ESTABLISH_BLOCKS, Detector, Guard, MicRest, Paths, Powers};

@@ -2,4 +2,5 @@
 #![tactic(auto)]
 
 pub mod guard;
+pub mod lent;
 pub mod powers;

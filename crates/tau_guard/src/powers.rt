@@ -7,26 +7,22 @@ use tau_state::sums::smooth;
 
 const ERLE_SMOOTHING: f64 = 0.999;
 
-fn hear_power(s: &[f32; 256], valid: usize, power: f64) -> f64
+pub(crate) fn hear_power(samples: &[f32; 256], valid: usize, power: f64) -> f64
     requires { valid ≤ 256 }
-    ensures { result ≡ followed s.now valid power }
+    ensures { result ≡ followed samples.now valid power }
 {
     let mut acc = power;
-    let mut i = 0usize;
-    while i < valid {
-        let x = numbers::widen(s[i]);
+    for i in 0..valid {
+        let x = numbers::widen(samples[i]);
         acc = smooth(ERLE_SMOOTHING, acc, x * x);
-        i += 1;
     }
     acc
 }
 
-pub fn host_powers(near: &[f32; 256], block: &[f32; 256], valid: usize, p: Powers) -> Powers
+pub fn host_powers(near: &[f32; 256], block: &[f32; 256], valid: usize, powers: &mut Powers)
     requires { valid ≤ 256 }
-    ensures { result ≡ hosted near.now block.now valid p }
+    ensures { powers.new ≡ hosted near.now block.now valid powers.old }
 {
-    Powers {
-        near_power: hear_power(near, valid, p.near_power),
-        residual_power: hear_power(block, valid, p.residual_power),
-    }
+    powers.near_power = hear_power(near, valid, powers.near_power);
+    powers.residual_power = hear_power(block, valid, powers.residual_power);
 }

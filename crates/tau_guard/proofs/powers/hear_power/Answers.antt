@@ -9,7 +9,7 @@ loop-i-init c = search (rules, loops)
 
 pub loop-i-preserved : goal.loop-i-preserved
 unfolding followed
-loop-i-preserved c = (search rules, rw iter-more (cc))
+loop-i-preserved c = rw iter-more (cc)
 
 pub returns : goal.returns
 unfolding followed
