@@ -1,5 +1,4 @@
 -- What the place and the length of a payload are for. Assumes nothing.
---     size-six         an accepted record has its header at least
 --     payload-placed   cut out of the host's bytes at this place and with this length, it is the payload
 use mathlib.Core.Path.{◌≡◌, refl, sym, ap, ◌∙◌}
 use mathlib.Core.Bool.{Bool, true, false}
@@ -13,9 +12,6 @@ use Rattle.laws.specs.Choice.{pick}
 use Rattle.record.specs.Reading.{length_in, read_refusal, read_of, payload_of}
 use Rattle.record.proofs.Records.{read-refusal, read-yes, read_no, payload-yes, payload-no, size-least}
 use Rattle.capi.specs.Record.{record_read_of}
-
-pub size-six : (s : List ℕ) → (read_of s).refusal ≡ 0 → 6 ≤ (read_of s).size
-size-six s h = size-least s (sym (read-refusal s) ∙ h)
 
 pub payload-placed : (s : List ℕ) → payload_of s ≡ take (record_read_of s).payload_len (drop (record_read_of s).payload_at s)
 unfolding pick

@@ -2,8 +2,7 @@
 -- cross to C. Definitions only.
 use Rattle.std.specs.Prelude.{List, ℕ, ◌-◌, eqb}
 use Rattle.laws.specs.Choice.{pick}
-use Rattle.record.specs.declared.reading.Found.{Found}
-use Rattle.record.specs.Reading.{read_of}
+use Rattle.record.specs.Reading.{Found, read_of}
 use Rattle.capi.specs.declared.record_calls.RecordRead.{RecordRead}
 
 -- a payload stands behind the six bytes of its header, and ends with its record; the place and length of none are 0

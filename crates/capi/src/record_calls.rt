@@ -18,27 +18,26 @@ pub struct RecordRead {
 pub fn aspeyruni_record_read(bytes: &[u8]) -> RecordRead
     ensures { promises.RecordRead bytes.now result }
 {
-    let found = record::read(bytes);
-    if found.refusal != 0 {
-        return RecordRead {
-            refusal: found.refusal,
-            kind: found.kind,
-            size: found.size,
+    match record::read(bytes) {
+        Ok(header) => RecordRead {
+            refusal: 0,
+            kind: u32::from(header.kind),
+            size: header.size(),
+            payload_at: 6,
+            payload_len: header.len,
+        },
+        Err(refusal) => RecordRead {
+            refusal: u32::from(refusal),
+            kind: 0,
+            size: 0,
             payload_at: 0,
             payload_len: 0,
-        };
-    }
-    RecordRead {
-        refusal: found.refusal,
-        kind: found.kind,
-        size: found.size,
-        payload_at: 6,
-        payload_len: found.size - 6,
+        },
     }
 }
 
 pub fn aspeyruni_record_write(kind: u32, payload: &[u8], out: &mut [u8]) -> Written
     ensures { Write kind payload.now out.old result out.new }
 {
-    record::write(kind, payload, out)
+    Written::from(record::write(kind, payload, out))
 }

@@ -29,7 +29,7 @@ use Rattle.capi.specs.Promises.{TauProcess, TauFlush, RecordRead, NarrowKind}
 use Rattle.wire.specs.Promises.{WholePairs, ReadNear, ReadFar, KeepRest, WriteSamples}
 use Rattle.capture.specs.Feeds.{Fed}
 use Rattle.capture.specs.Promises.{Feed, Finish}
-use Rattle.record.specs.declared.reading.Found.{Found}
+use Rattle.record.specs.Reading.{Found}
 use Rattle.record.specs.Writing as writing
 use Rattle.record.specs.Promises.{Read, Payload, Write}
 use Rattle.recorded.specs.Recorded.{Left}

@@ -49,6 +49,7 @@ use Rattle.wire.specs.Promises.{WholePairs, ReadNear, ReadFar, KeepRest, WriteSa
 use Rattle.capture.specs.contracts as capture
 use Rattle.capture.specs.Promises.{Feed, Finish}
 use Rattle.record.specs.contracts as records
+use Rattle.record.specs.Answers.{found_of, written_of}
 use Rattle.record.specs.Promises.{Read, Payload, Write}
 use Rattle.recorded.specs.contracts as recorded
 use Rattle.recorded.specs.Promises as recorded_promises
@@ -208,7 +209,8 @@ module _ {M : Type 1} {𝓤 : Ura M} (𝓛 : Logic 𝓤) (mem : Memory → SProp
       (λ _ (s, (sh, (ou, (xs, (ps, (out, _)))))) r (_, (sh', (ou', (xs', (ps', (out', _)))))). TauFlush (tau_of s sh.now ou.now xs.now ps.now) out.now r sh'.now ou'.now xs'.now ps'.now out'.now)
       × (capi.aspeyruni_tau_reset.clauses 𝓛 mem run ≡ tau.reset.clauses 𝓛 mem run)
       × Says capi.aspeyruni_record_read.ended (capi.aspeyruni_record_read.clauses 𝓛 mem run) (λ _ (bytes, _) r _. RecordRead bytes.now r)
-      × (capi.aspeyruni_record_write.clauses 𝓛 mem run ≡ records.write.clauses 𝓛 mem run)
+      × Says capi.aspeyruni_record_write.ended (capi.aspeyruni_record_write.clauses 𝓛 mem run)
+      (λ _ (kind, (payload, (out, _))) r (_, (_, (out', _))). Write kind payload.now out.now r out'.now)
 
   -- wire, capture
   abbrev pub Bytes : Type 2
@@ -230,10 +232,10 @@ module _ {M : Type 1} {𝓤 : Ura M} (𝓛 : Logic 𝓤) (mem : Memory → SProp
   -- record, of which the payload is a part of the bytes; recorded
   abbrev pub Records : Type 2
   Records =
-      Says records.read.ended (records.read.clauses 𝓛 mem run) (λ _ (bytes, _) r _. Read bytes.now r)
+      Says records.read.ended (records.read.clauses 𝓛 mem run) (λ _ (bytes, _) r _. Read bytes.now (found_of r))
       × Says records.payload.ended (records.payload.clauses 𝓛 mem run) (λ _ (bytes, _) r _. Payload bytes.now r.now)
       × Says records.write.ended (records.write.clauses 𝓛 mem run)
-      (λ _ (kind, (payload, (out, _))) r (_, (_, (out', _))). Write kind payload.now out.now r out'.now)
+      (λ _ (kind, (payload, (out, _))) r (_, (_, (out', _))). Write kind payload.now out.now (written_of r) out'.now)
       × Says recorded.feed.ended (recorded.feed.clauses 𝓛 mem run)
       (λ _ (s, (sh, (ou, (xs, (ps, (pairs, (out, _))))))) r (_, (sh', (ou', (xs', (ps', (_, (out', _))))))). recorded_promises.Feed (tau_of s sh.now ou.now xs.now ps.now) pairs.now out.now r sh'.now ou'.now xs'.now ps'.now out'.now)
       × Says recorded.finish.ended (recorded.finish.clauses 𝓛 mem run)

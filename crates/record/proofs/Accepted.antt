@@ -1,5 +1,6 @@
 -- What an accepted read and a fitting payload are, taken apart. Assumes nothing.
 --     fits-most, fits-kind     what fits has at most 4,096 bytes, and a kind of at most 4
+--     unknown_unfit            nothing fits a kind that is unknown
 --     fits-pairs, fits-samples, fits-flush     and the other way round: what fits
 --     nine-short               9 is given for fewer bytes than the largest record has
 --     header-six               six bytes are there where the header is not refused
@@ -11,9 +12,10 @@
 use mathlib.Core.Path.{◌≡◌, refl, sym}
 use mathlib.Core.Bool.{Bool, true, false, ◌&&◌, true≢false}
 use mathlib.Core.List.{List}
+use mathlib.Core.Logic.{◌⊎◌, inl, inr}
 use Prim.Native.Nat.{ℕ, suc, ◌+◌, ◌%◌, ◌≤◌, ◌<◌}
 use native.Mathlib.Omega.{arith}
-use borrow.Author.Tests.{leb-true, leb-false, eqb-true, eqb-false, le-leb, eq-eqb}
+use borrow.Author.Tests.{leb-true, leb-false, eqb-true, eqb-false, le-leb, eq-eqb, ne_eqb}
 use lib.Dec.{eqb, leb}
 use lib.ListN.{length, get_or}
 use Rattle.laws.specs.Choice.{pick, pick_yes, pick-if, both}
@@ -24,6 +26,10 @@ use Rattle.record.specs.Reading.{kind_in, length_in, marked_of, headed_of, whole
 pub both_so : (a b : Bool) → a ≡ true → b ≡ true → (a && b) ≡ true
 both_so true b h k = k
 both_so false b h k = absurd (true≢false (sym h))
+
+and_false : (b : Bool) → (b && false) ≡ false
+and_false true = refl
+and_false false = refl
 
 -- a refusal that is 0: the test holds, and so does what comes after it
 no-refusal : (b : Bool) (x n : ℕ) → pick b x (suc n) ≡ 0 → (b ≡ true) × (x ≡ 0)
@@ -52,6 +58,13 @@ module _ (kind n : ℕ) (h : fits_of kind n ≡ true) where
       (λ g. pick-if (λ b. b ≡ true → kind ≤ 4) (eqb kind 3) (λ e t. omega (arith, eqb-true kind 3 e))
       (λ i. pick-if (λ b. b ≡ true → kind ≤ 4) (eqb kind 4) (λ e t. omega (arith, eqb-true kind 4 e)) (λ j t. absurd (true≢false (sym t))))))
       (both (leb n 4096) _ h).1
+
+pub unknown_unfit : (kind n : ℕ) → (kind ≡ 0) ⊎ (4 < kind) → fits_of kind n ≡ false
+unfolding fits_of pick
+unknown_unfit kind n (inl e) = rw e (and_false (leb n 4096))
+unknown_unfit kind n (inr h) =
+    let other : (k : ℕ) → k ≤ 4 → eqb kind k ≡ false = λ k l. ne_eqb kind k (λ e. omega (arith, e)) in
+    rw (other 1 (omega arith), other 2 (omega arith), other 3 (omega arith), other 4 (omega arith)) (and_false (leb n 4096))
 
 pub fits-pairs : (n : ℕ) → n ≤ 4096 → n % 8 ≡ 0 → fits_of 1 n ≡ true
 unfolding fits_of pick

@@ -5,6 +5,7 @@
 --     record-accepted, record-read, record-payload     a record's bytes are read as what it was made of, whatever follows them
 --     read-record, bytes-again     an accepted record written again gives its bytes
 --     payload-fits, payload-size     its payload fits its kind, and stands behind six bytes
+--     some-number, written-ok     a refusal's number is not 0, so who reads 0 and a count has an `Ok`
 --     size-most, size-least     an accepted record lies within the bytes, and takes six of them at least
 use mathlib.Core.Path.{◌≡◌, refl, sym, ap, ◌∙◌}
 use mathlib.Core.Bool.{true}
@@ -15,12 +16,17 @@ use borrow.Author.Tests.{eq-eqb, ne_eqb, eqb-true, le-leb}
 use lib.Dec.{eqb}
 use lib.ListN.{length, take, drop, length-append, length-drop}
 use lib.Seq.{length-take-le, take-append_seam}
+use Rattle.std.specs.Prelude.{Result, Ok, Err}
+use Rattle.refusal.specs.declared.Refusal.{Refusal}
+use Rattle.refusal.specs.declared.Refusal.TheVariants.{Settings, WrongLength, UnequalLengths, TooManyPairs, NoRoom, StateOutOfRange, NoMark, BadHeader, CutShort}
+use Rattle.refusal.specs.Refusal as refusals
 use Rattle.laws.specs.Choice.{pick_yes, pick_no, pick-if}
 use Rattle.laws.specs.Kinds.{All}
-use Rattle.record.specs.declared.reading.Found.{Found}
 use Rattle.record.specs.Record.{Byte, fits_of, record_of}
-use Rattle.record.specs.Reading.{kind_in, length_in, read_refusal, read_of, payload_of}
+use Rattle.record.specs.Reading.{Found, kind_in, length_in, read_refusal, read_of, payload_of}
 use Rattle.record.specs.Writing.{Wrote, write_refusal, write_of}
+use Rattle.record.specs.declared.writing.Written.{Written}
+use Rattle.record.specs.Answers.{written_of}
 use Rattle.record.proofs.Accepted.{Whole, accepted, whole-accepted}
 
 abbrev pub found_of : ℕ → ℕ → Found
@@ -158,3 +164,20 @@ module _ (kind : ℕ) (payload out : List ℕ) where
   pub write-refusal : (write_of kind payload out).refusal ≡ refusal
   unfolding write_of
   write-refusal = pick-if (λ (r : Wrote). r.refusal ≡ refusal) (eqb refusal 0) (λ e. sym (eqb-true refusal 0 e)) (λ e. refl)
+
+-- ---- the answers by numbers, taken back
+
+pub some-number : (refusal : Refusal) → refusals.number_of refusal ≡ 0 → ⊥
+some-number Settings h = absurd (omega (arith, h))
+some-number WrongLength h = absurd (omega (arith, h))
+some-number UnequalLengths h = absurd (omega (arith, h))
+some-number TooManyPairs h = absurd (omega (arith, h))
+some-number NoRoom h = absurd (omega (arith, h))
+some-number StateOutOfRange h = absurd (omega (arith, h))
+some-number NoMark h = absurd (omega (arith, h))
+some-number BadHeader h = absurd (omega (arith, h))
+some-number CutShort h = absurd (omega (arith, h))
+
+pub written-ok : (r : Result ℕ Refusal) (n : ℕ) → written_of r ≡ record { refusal = 0; written = n } → r ≡ Ok n
+written-ok (Ok m) n h = ap (λ (w : Written). Ok w.written) h
+written-ok (Err refusal) n h = absurd (some-number refusal (ap (λ (w : Written). w.refusal) h))

@@ -1,9 +1,8 @@
 -- What each public function promises: what it is given, then its answer, then what the lent buffer holds after. The contracts cite these
 -- names, and crate promises proves that each admits one answer (Answers).
 use Rattle.std.specs.Prelude.{◌≡◌, List, ℕ}
-use Rattle.record.specs.declared.reading.Found.{Found}
 use Rattle.record.specs.declared.writing.Written.{Written}
-use Rattle.record.specs.Reading.{read_of, payload_of}
+use Rattle.record.specs.Reading.{Found, read_of, payload_of}
 use Rattle.record.specs.Writing.{write_of}
 
 abbrev pub Read : List ℕ → Found → Type 0

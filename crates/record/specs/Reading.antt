@@ -4,11 +4,10 @@
 --     marked_of s, headed_of s, whole_of s     the mark is right; the rest of the header is; the payload is there
 --     header_refusal s          the refusal by the header alone, 0 where there is none
 --     read_refusal s            the refusal
---     read_of s                 the answer: refusal, kind and size
+--     Found, read_of s          the answer by numbers: refusal, kind and size
 --     payload_of s              the part that is handed back
 use Rattle.std.specs.Prelude.{Bool, ◌&&◌, List, [], ℕ, ◌+◌, ◌*◌, eqb, leb, length, get_or, take, drop}
 use Rattle.laws.specs.Choice.{pick}
-use Rattle.record.specs.declared.reading.Found.{Found}
 use Rattle.record.specs.Record.{fits_of}
 
 abbrev pub kind_in : List ℕ → ℕ
@@ -31,6 +30,11 @@ header_refusal s = pick (leb 6 (length s)) (pick (marked_of s) (pick (headed_of 
 
 unfoldable pub read_refusal : List ℕ → ℕ
 read_refusal s = let first = header_refusal s in pick (eqb first 0) (pick (whole_of s) 0 9) first
+
+pub record Found : Type 0 where
+  pub refusal : ℕ
+  pub kind : ℕ
+  pub size : ℕ
 
 unfoldable pub read_of : List ℕ → Found
 read_of s =

@@ -1,12 +1,14 @@
 // Writing: a record to the front of a buffer. What lies behind it stays.
-ghost use Rattle.std.specs.Prelude.{◌≡◌, ◌+◌, ◌≤◌, length};
-ghost use Rattle.record.specs.Record.{header_of};
-ghost use Rattle.record.specs.Writing.{write_refusal, put_of};
+ghost use Rattle.std.specs.Prelude.{◌≡◌};
+ghost use Rattle.record.specs.Kind.{number_of};
+ghost use Rattle.record.specs.Answers.{written_of};
 ghost use Rattle.record.specs.Promises as promises;
 
-use crate::kinds::fits;
+use crate::header::Header;
+use crate::kind::Kind;
+use refusal::Refusal;
 
-// How many bytes of the buffer the record takes up.
+// The answer of a writer as C has it: how many bytes of the buffer the record takes up.
 #[repr(C)]
 #[derive(Clone, Copy)]
 pub struct Written {
@@ -14,60 +16,41 @@ pub struct Written {
     pub written: usize,
 }
 
-pub fn write(kind: u32, payload: &[u8], out: &mut [u8]) -> Written
-    ensures { promises.Write kind payload.now out.old result out.new }
-{
-    let refusal = write_refusal(kind, payload.len(), out.len());
-    if refusal != 0 {
-        return Written {
-            refusal,
-            written: 0,
-        };
-    }
-    let header = header_of(kind, payload.len());
-    put(&header, 0, out);
-    put(payload, 6, out);
-    Written {
-        refusal: 0,
-        written: 6 + payload.len(),
+impl From<Result<usize, Refusal>> for Written {
+    ghost from_gives = { λ answer written. written ≡ written_of answer };
+
+    fn from(answer: Result<usize, Refusal>) -> Written {
+        match answer {
+            Ok(written) => Written {
+                refusal: 0,
+                written,
+            },
+            Err(refusal) => Written {
+                refusal: u32::from(refusal),
+                written: 0,
+            },
+        }
     }
 }
 
-fn write_refusal(kind: u32, len: usize, room: usize) -> u32
-    ensures { result ≡ write_refusal kind len room }
+// A record whose kind is told by its number, as a host tells it. How many bytes of the buffer it takes up.
+#[tactic(auto, using(laws::specs::Choice::choices, crate::proofs::Accepted::unknown_unfit), unfolding(crate::specs::Writing::write_of, crate::specs::Writing::write_refusal))]
+pub fn write(kind: u32, payload: &[u8], out: &mut [u8]) -> Result<usize, Refusal>
+    ensures { promises.Write kind payload.now out.old (written_of result) out.new }
 {
-    if !fits(kind, len) {
-        return 8;
-    }
-    if room < 6 + len {
-        return 5;
-    }
-    0
+    write_record(Kind::try_from(kind)?, payload, out)
 }
 
-fn header_of(kind: u32, len: usize) -> [u8; 6]
-    requires kind_bound { kind ≤ 4 }
-    requires len_bound { len ≤ 4096 }
-    ensures { result ≡ header_of kind len }
+#[tactic(auto, using(laws::specs::Choice::choices), unfolding(crate::specs::Writing::write_of, crate::specs::Writing::write_refusal))]
+pub fn write_record(kind: Kind, payload: &[u8], out: &mut [u8]) -> Result<usize, Refusal>
+    ensures { promises.Write (number_of kind) payload.now out.old (written_of result) out.new }
 {
-    [
-        0xec,
-        0x0e,
-        kind as u8,
-        0,
-        (len % 256) as u8,
-        (len / 256) as u8,
-    ]
-}
-
-// Some bytes, from a place of the buffer on.
-fn put(bytes: &[u8], at: usize, out: &mut [u8])
-    requires { at + length bytes.now ≤ length out.old }
-    ensures { out.new ≡ put_of bytes.now at out.old }
-{
-    let mut k = 0usize;
-    while k < bytes.len() {
-        out[at + k] = bytes[k];
-        k += 1;
+    let header = Header::new(kind, payload.len())?;
+    let size = header.size();
+    if out.len() < size {
+        return Err(Refusal::NoRoom);
     }
+    out[..6].copy_from_slice(&header.to_bytes());
+    out[6..size].copy_from_slice(payload);
+    Ok(size)
 }

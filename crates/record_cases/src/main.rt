@@ -104,9 +104,9 @@ fn read_made(line: &[u8], bytes: &mut [u8]) -> Found
     make_bytes(line, bytes);
     let got = record::read(bytes);
     match line[0] {
-        b'r' => number(got.refusal),
-        b'k' => number(got.kind),
-        b's' => Found::Number(got.size as u64),
+        b'r' => number(refusal::number(&got)),
+        b'k' => number(got.map_or(0, |header| u32::from(header.kind))),
+        b's' => Found::Number(got.map_or(0, |header| header.size() as u64)),
         b'p' => Found::Number(cases::hash_of8(record::payload(bytes))),
         _ => Found::Nothing,
     }
@@ -137,8 +137,8 @@ fn write_made(line: &[u8], payload: &mut [u8]) -> Found
     cases::noise8(BEFORE, &mut buffer);
     let got = record::write(kind, payload, &mut buffer[..room]);
     match line[0] {
-        b'R' => number(got.refusal),
-        b'W' => Found::Number(got.written as u64),
+        b'R' => number(refusal::number(&got)),
+        b'W' => Found::Number(got.unwrap_or(0) as u64),
         b'B' => Found::Number(cases::hash_of8(&buffer)),
         _ => Found::Nothing,
     }

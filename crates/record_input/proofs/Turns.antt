@@ -12,8 +12,7 @@ use lib.Dec.{eqb}
 use lib.ListN.{length, take, drop, length-drop}
 use lib.Seq.{length-take-le, take-take}
 use Rattle.laws.specs.Choice.{pick-if, pick_no}
-use Rattle.record.specs.declared.reading.Found.{Found}
-use Rattle.record.specs.Reading.{read_of}
+use Rattle.record.specs.Reading.{Found, read_of}
 use Rattle.record_input.specs.declared.reading.Input.{Input}
 use Rattle.record_input.specs.declared.reading.Next.TheVariants as next
 use Rattle.record_input.specs.declared.reading.Read.TheVariants as read

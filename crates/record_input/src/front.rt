@@ -2,6 +2,8 @@
 ghost use Rattle.std.specs.Prelude.{◌≡◌, ◌-◌, ◌≤◌, length, take, drop};
 ghost use Rattle.record_input.specs.Front.{front_of, place_after};
 
+use refusal::Refusal;
+
 #[derive(Clone, Copy)]
 pub enum Front {
     Whole { kind: u32, size: usize },
@@ -12,26 +14,26 @@ pub enum Front {
 }
 
 // With the input at its end nothing can follow: then no bytes are the end, and too few are a refusal.
+#[tactic(auto, using(laws::specs::Choice::choices), unfolding(crate::specs::Front::front_of))]
 pub fn at_front(bytes: &[u8], ended: bool) -> Front
     ensures { result ≡ front_of bytes.now ended }
 {
-    let found = record::read(bytes);
-    if found.refusal == 0 {
-        return Front::Whole {
-            kind: found.kind,
-            size: found.size,
-        };
-    }
-    if found.refusal != 9 {
-        return Front::Refused(found.refusal);
-    }
-    if ended {
-        if bytes.len() == 0 {
-            return Front::End;
+    match record::read(bytes) {
+        Ok(header) => Front::Whole {
+            kind: u32::from(header.kind),
+            size: header.size(),
+        },
+        Err(Refusal::CutShort) => {
+            if ended {
+                if bytes.len() == 0 {
+                    return Front::End;
+                }
+                return Front::Refused(9);
+            }
+            Front::Begun
         }
-        return Front::Refused(9);
+        Err(refusal) => Front::Refused(u32::from(refusal)),
     }
-    Front::Begun
 }
 
 // The bytes from `from` up to `end` go to the block's front.

@@ -1,8 +1,10 @@
 -- Two records written one behind the other. Assumes nothing.
 --     both-length          how many bytes two records take up
+--     is-taken             a record that fits and has room is written
+--     as_wrote             and its answer, as the definition has it
 --     first_ends           the first ends within the buffer
 --     wrote-both           what both leave: how many bytes they take up, and the buffer
-use mathlib.Core.Path.{◌≡◌, sym, ap, ◌∙◌}
+use mathlib.Core.Path.{◌≡◌, refl, sym, ap, subst, ◌∙◌}
 use mathlib.Core.Bool.{true}
 use mathlib.Core.List.{List, [], ◌++◌, append_assoc, append-nil}
 use Prim.Native.Nat.{ℕ, ◌+◌, ◌-◌, ◌≤◌}
@@ -11,10 +13,22 @@ use borrow.Author.Rules.{part_to_end}
 use borrow.Rule.Slice.PartMut.{post_of, put_mid, Post-is}
 use lib.ListN.{length, take, drop, length-append, length-drop}
 use lib.Seq.{drop-length, take_at, drop_at, drop-drop}
+use Rattle.std.specs.Prelude.{Result, Ok, IsOk}
+use Rattle.refusal.specs.declared.Refusal.{Refusal}
+use Rattle.record.specs.Answers.{written_of}
+use Rattle.record.specs.Promises.{Write}
 use Rattle.record.specs.Record.{fits_of, record_of}
 use Rattle.record.specs.Writing.{Wrote, write_of}
-use Rattle.record.proofs.Records.{write-fits}
+use Rattle.record.proofs.Records.{write-fits, written-ok}
 use Rattle.recorded.specs.Recorded.{both_of}
+
+module _ (kind : ℕ) (payload out : List ℕ) (r : Result ℕ Refusal) {after : List ℕ} (h : Write kind payload out (written_of r) after) where
+  pub is-taken : fits_of kind (length payload) ≡ true → 6 + length payload ≤ length out → IsOk r
+  is-taken fits room =
+      rw (written-ok r (6 + length payload) (ap (λ (w : Wrote). record { refusal = w.refusal; written = w.written }) (h ∙ write-fits kind payload out fits room))) refl
+
+  pub as_wrote : {n : ℕ} → r ≡ Ok n → record { refusal = 0; written = n; out = after } ≡ write_of kind payload out
+  as_wrote e = subst (λ (t : Result ℕ Refusal). Write kind payload out (written_of t) after) e h
 
 pub both-length : (kind : ℕ) (payload delivered : List ℕ) → length (both_of kind payload delivered) ≡ 12 + length payload + length delivered
 both-length kind payload delivered = length-append (record_of kind payload) (record_of 2 delivered) ∙ omega arith
@@ -48,10 +62,14 @@ module _ (kind : ℕ) (payload delivered out : List ℕ) (fits : (fits_of kind (
       ∙ (λ i. drop (first-written i) (first_out i))
       ∙ drop_at (record_of kind payload) (drop (6 + length payload) out) (6 + length payload) (omega arith)
 
-  module _ (second : Wrote) (g : second ≡ write_of 2 delivered (take (length first.out - first.written) (drop first.written first.out))) where
-    second-room : 6 + length delivered ≤ length (drop (6 + length payload) out)
-    second-room = let l = both-length kind payload delivered in rw (length-drop (6 + length payload) out) (omega (arith, l))
+  second-room : 6 + length delivered ≤ length (drop (6 + length payload) out)
+  second-room = let l = both-length kind payload delivered in rw (length-drop (6 + length payload) out) (omega (arith, l))
 
+  -- what lies behind the first has room for the second
+  pub second-space : 6 + length delivered ≤ length (take (length first.out - first.written) (drop first.written first.out))
+  second-space = rw behind-first second-room
+
+  module _ (second : Wrote) (g : second ≡ write_of 2 delivered (take (length first.out - first.written) (drop first.written first.out))) where
     second-left : second ≡ record { refusal = 0; written = 6 + length delivered; out = record_of 2 delivered ++ drop (6 + length delivered) (drop (6 + length payload) out) }
     second-left = g ∙ ap (write_of 2 delivered) behind-first ∙ write-fits 2 delivered (drop (6 + length payload) out) fits.1 second-room
 

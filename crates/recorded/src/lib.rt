@@ -7,11 +7,13 @@
 #![tactic(auto)]
 
 ghost use Rattle.std.specs.Prelude.{◌≡◌, true, ◌++◌, ◌≤◌, length, drop};
+ghost use Rattle.record.specs.Kind.{number_of};
 ghost use Rattle.record.specs.Record.{fits_of};
 ghost use Rattle.recorded.specs.Recorded.{both_of, first_refusal};
 ghost use Rattle.recorded.specs.Promises.{Feed, Finish};
 
 use numbers::lesser;
+use record::Kind;
 use tau_fresh::refusals::state_refusal;
 use tau_state::state::TauCanceller;
 
@@ -65,7 +67,7 @@ pub fn feed(
         &mut bytes,
     );
     let sent = 4 * answer.delivered;
-    let written = put(1, &pairs[..end], &bytes[..sent], out);
+    let written = put(Kind::Pairs, &pairs[..end], &bytes[..sent], out);
     let state = answer.state;
     Recorded {
         refusal: 0,
@@ -105,7 +107,7 @@ pub fn finish(
     let mut bytes = [0u8; 1024];
     let answer = capture::finish(s, shadow, output, spectra, powers, &mut bytes);
     let sent = 4 * answer.delivered;
-    let written = put(3, b"", &bytes[..sent], out);
+    let written = put(Kind::Flush, b"", &bytes[..sent], out);
     let state = answer.state;
     Recorded {
         refusal: 0,
@@ -137,14 +139,13 @@ fn first_refusal(
 }
 
 // A record of this kind, and one of kind 2 behind it. How many bytes both take up.
-fn put(kind: u32, payload: &[u8], delivered: &[u8], out: &mut [u8]) -> usize
-    requires payloads_fit { (fits_of kind (length payload.now) ≡ true) × (fits_of 2 (length delivered.now) ≡ true) }
-    requires room { length (both_of kind payload.now delivered.now) ≤ length out.old }
-    ensures written { result ≡ length (both_of kind payload.now delivered.now) }
-    ensures out_after { out.new ≡ both_of kind payload.now delivered.now ++ drop result out.old }
+fn put(kind: Kind, payload: &[u8], delivered: &[u8], out: &mut [u8]) -> usize
+    requires payloads_fit { (fits_of (number_of kind) (length payload.now) ≡ true) × (fits_of 2 (length delivered.now) ≡ true) }
+    requires room { length (both_of (number_of kind) payload.now delivered.now) ≤ length out.old }
+    ensures written { result ≡ length (both_of (number_of kind) payload.now delivered.now) }
+    ensures out_after { out.new ≡ both_of (number_of kind) payload.now delivered.now ++ drop result out.old }
 {
-    let first = record::write(kind, payload, out);
-    let start = first.written;
-    let second = record::write(2, delivered, &mut out[start..]);
-    start + second.written
+    let start = record::write_record(kind, payload, out).unwrap();
+    let more = record::write_record(Kind::Output, delivered, &mut out[start..]).unwrap();
+    start + more
 }
