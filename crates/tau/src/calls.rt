@@ -48,7 +48,7 @@ fn answer_of(u: Unreported) -> Answer
         refusal: u.refusal,
         delivered: u.delivered,
         state,
-        report: report_of(state.mic, last),
+        report: report_of(&state.mic, last),
     }
 }
 

@@ -52,7 +52,7 @@ pub fn state_refusal(
 ) -> u32
     ensures { result ≡ state_refusal s shadow output spectra powers }
 {
-    if !in_range(s) {
+    if !in_range(&s) {
         return 6;
     }
     let partitions = s.partitions;

@@ -4,23 +4,14 @@ ghost use Rattle.tau_state.specs.Ranges.{ranged_of};
 
 use crate::state::{DTD_ESTABLISH_BLOCKS, TauCanceller};
 
-pub fn in_range(s: TauCanceller) -> bool
-    ensures { result ≡ ranged_of s }
+#[tactic(auto, unfolding(crate::specs::Ranges::ranged_of))]
+pub fn in_range(state: &TauCanceller) -> bool
+    ensures { result ≡ ranged_of state.now }
 {
-    if s.partitions < 1 {
-        return false;
-    }
-    if 32 < s.partitions {
-        return false;
-    }
-    if s.partitions <= s.far.head {
-        return false;
-    }
-    if 255 < s.carried {
-        return false;
-    }
-    if 7 < s.mic.paths.rescue_streak {
-        return false;
-    }
-    s.mic.detector.dtd_blocks <= DTD_ESTABLISH_BLOCKS
+    1 <= state.partitions
+        && state.partitions <= 32
+        && state.far.head < state.partitions
+        && state.carried <= 255
+        && state.mic.paths.rescue_streak <= 7
+        && state.mic.detector.dtd_blocks <= DTD_ESTABLISH_BLOCKS
 }

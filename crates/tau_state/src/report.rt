@@ -54,23 +54,25 @@ pub struct Report {
     pub last: Last,
 }
 
+#[tactic(auto, unfolding(crate::specs::Report::outcome_of))]
 pub fn outcome_of(reason: Reason) -> Outcome
     ensures { result ≡ outcome_of reason }
 {
     match reason {
         Reason::NoBlock => Outcome::NotRun,
-        Reason::FlushBlock => Outcome::NoMove,
-        Reason::OutputDiverged => Outcome::NoMove,
-        Reason::FarNotActive => Outcome::NoMove,
-        Reason::NotEstablished => Outcome::NoMove,
+        Reason::FlushBlock
+        | Reason::OutputDiverged
+        | Reason::FarNotActive
+        | Reason::NotEstablished
+        | Reason::QuietStreakShort
+        | Reason::NoOutputPower
+        | Reason::NoAdvantage => Outcome::NoMove,
         Reason::Rescued => Outcome::Rescue,
-        Reason::QuietStreakShort => Outcome::NoMove,
-        Reason::NoOutputPower => Outcome::NoMove,
-        Reason::NoAdvantage => Outcome::NoMove,
         Reason::Moved(leak) => Outcome::Move(leak),
     }
 }
 
+#[tactic(auto, unfolding(crate::specs::Report::reason_in))]
 pub fn reason_of(last: Last) -> Reason
     ensures { result ≡ reason_in last }
 {
@@ -80,6 +82,7 @@ pub fn reason_of(last: Last) -> Reason
     }
 }
 
+#[tactic(auto, unfolding(crate::specs::Report::overs_in))]
 pub fn overs_of(last: Last) -> u32
     ensures { result ≡ overs_in last }
 {
@@ -89,14 +92,14 @@ pub fn overs_of(last: Last) -> u32
     }
 }
 
-pub fn report_of(m: Mic, last: Last) -> Report
-    ensures { result ≡ report_of m last }
+#[tactic(auto, unfolding(crate::specs::Report::report_of))]
+pub fn report_of(mic: &Mic, last: Last) -> Report
+    ensures { result ≡ report_of mic.now last }
 {
-    let d = m.detector;
     Report {
-        transfers: m.transfers,
-        divergence_resets: m.divergence_resets,
-        double_talk: d.double_talk,
+        transfers: mic.transfers,
+        divergence_resets: mic.divergence_resets,
+        double_talk: mic.detector.double_talk,
         outcome: outcome_of(reason_of(last)),
         overs: overs_of(last),
         last,
@@ -104,43 +107,60 @@ pub fn report_of(m: Mic, last: Last) -> Report
 }
 
 // The outcome as a number, for hosts that have no enum.
-pub fn number(o: Outcome) -> u32
-    ensures { result ≡ number_of o }
-{
-    match o {
-        Outcome::NotRun => 0,
-        Outcome::NoMove => 1,
-        Outcome::Rescue => 2,
-        Outcome::Move(_leak) => 3,
+#[tactic(auto, unfolding(crate::specs::Report::number_of))]
+impl From<Outcome> for u32 {
+    ghost from_gives = { λ outcome number. number ≡ number_of outcome };
+
+    fn from(outcome: Outcome) -> u32 {
+        match outcome {
+            Outcome::NotRun => 0,
+            Outcome::NoMove => 1,
+            Outcome::Rescue => 2,
+            Outcome::Move(_leak) => 3,
+        }
     }
 }
 
-// The leak of a move, and 0.0 where there is none.
-pub fn leak_of(o: Outcome) -> f64
-    ensures { result ≡ leak_in o }
+pub fn number(o: Outcome) -> u32
+    ensures { result ≡ number_of o }
 {
-    match o {
-        Outcome::NotRun => 0.0,
-        Outcome::NoMove => 0.0,
-        Outcome::Rescue => 0.0,
+    u32::from(o)
+}
+
+// The leak of a move, and 0.0 where there is none.
+#[tactic(auto, unfolding(crate::specs::Report::leak_in))]
+pub fn leak_of(outcome: Outcome) -> f64
+    ensures { result ≡ leak_in outcome }
+{
+    match outcome {
+        Outcome::NotRun | Outcome::NoMove | Outcome::Rescue => 0.0,
         Outcome::Move(leak) => leak,
     }
 }
 
 // The reason as a number, likewise: its place in the order.
+#[tactic(auto, unfolding(crate::specs::Report::reason_number))]
+impl From<Reason> for u32 {
+    ghost from_gives = { λ reason number. number ≡ reason_number reason };
+
+    fn from(reason: Reason) -> u32 {
+        match reason {
+            Reason::NoBlock => 0,
+            Reason::FlushBlock => 1,
+            Reason::OutputDiverged => 2,
+            Reason::FarNotActive => 3,
+            Reason::NotEstablished => 4,
+            Reason::Rescued => 5,
+            Reason::QuietStreakShort => 6,
+            Reason::NoOutputPower => 7,
+            Reason::NoAdvantage => 8,
+            Reason::Moved(_leak) => 9,
+        }
+    }
+}
+
 pub fn reason_number(reason: Reason) -> u32
     ensures { result ≡ reason_number reason }
 {
-    match reason {
-        Reason::NoBlock => 0,
-        Reason::FlushBlock => 1,
-        Reason::OutputDiverged => 2,
-        Reason::FarNotActive => 3,
-        Reason::NotEstablished => 4,
-        Reason::Rescued => 5,
-        Reason::QuietStreakShort => 6,
-        Reason::NoOutputPower => 7,
-        Reason::NoAdvantage => 8,
-        Reason::Moved(_leak) => 9,
-    }
+    u32::from(reason)
 }

@@ -1,20 +1,12 @@
+use Rattle.std.proofs.Common.{rules}
 use Rattle.laws.specs.Loops.{loops, iter-more}
 use Rattle.tau_state.specs.Sums.{energy_of}
-use borrow.Author.Rules.{rules}
 use Rattle.tau_state.proofs.sums.energy.Goals as goal
 
-pub loop-i-init : goal.loop-i-init
+pub loop-k-init : goal.loop-k-init
 unfolding energy_of
-loop-i-init c = search (rules, loops)
+loop-k-init c = search (rules, loops)
 
-pub widen-x-requires : goal.widen-x-requires
+pub loop-k-preserved : goal.loop-k-preserved
 unfolding energy_of
-widen-x-requires c = search rules
-
-pub loop-i-preserved : goal.loop-i-preserved
-unfolding energy_of
-loop-i-preserved c = (search rules, rw iter-more (cc))
-
-pub returns : goal.returns
-unfolding energy_of
-returns c = search (rules, loops)
+loop-k-preserved c = rw iter-more (cc)
