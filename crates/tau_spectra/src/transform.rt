@@ -6,6 +6,7 @@ ghost use Rattle.fft.specs.Calls.{spectrum_of, samples_of, overs_of};
 ghost use Rattle.tau_spectra.specs.Windows.{latter};
 
 // What the scratch holds between two transforms is open.
+#[derive(Drop)]
 pub struct Transform {
     table: [f64; 514],
     scratch: [f64; 1024],
