@@ -8,14 +8,16 @@ use native.Mathlib.Numerals.{add-one}
 use native.Mathlib.Omega.{arith}
 use borrow.Author.Tests.{eqb-true, eq-eqb, ne_eqb}
 use lib.Dec.{eqb}
-use lib.ListN.{length, get_or, take, drop, length-append, length-drop, drop_of_length-le}
-use lib.Seq.{take-length, take-append_seam, take_all, drop-cons, drop-drop}
+use lib.ListN.{length, set, take, drop, length-append, length-drop, drop_of_length-le}
+use lib.Seq.{take-length, take-append_seam, take_all, drop-cons, drop-drop, set-append_seam}
 use Rattle.laws.specs.Choice.{pick, pick_yes, pick_no, pick-if}
 use Rattle.line_order.specs.Order.{at_most}
 use Rattle.manifest.specs.Lines.{on_first, lines_of, ends_in_newline, joined_of}
 use Rattle.manifest.specs.Sorting.{insert_of, sort_of}
 use Rattle.manifest.specs.Sorted.{sorted_of}
-use Rattle.manifest.specs.Steps.{up_to, line_from, piece_of}
+use Rattle.manifest.specs.Steps.{up_to, piece_of}
+use Rattle.std.specs.List.{prefix_len}
+use Rattle.std.proofs.Common.{not, ◌==◌}
 
 -- ---- the first line
 up_to-newline : (b : ℕ) (s : List ℕ) → b ≡ 10 → up_to (b ∷ s) ≡ []
@@ -53,35 +55,32 @@ lines-first (b ∷ c ∷ s) h =
     (λ e. sym (pick_yes _ _ _ e refl))
     (λ e. sym (pick_no _ _ _ e (sym (ap (on_first b) r))))
 
--- ---- the line from a place on
-module _ (text : List ℕ) (at : ℕ) where
-  pub line-more : at < length text → (get_or text at 0 ≡ 10 → ⊥) → length (line_from text at) ≡ suc (length (line_from text (at + 1)))
-  unfolding line_from
-  line-more h e = rw (add-one, drop-cons text at 0 h) (ap length (up_to-other (get_or text at 0) (drop (suc at) text) e))
+-- ---- the first line, where std counts its bytes
+length-up_to : (s : List ℕ) → length (up_to s) ≡ prefix_len (λ b. not (b == 10)) s
+unfolding up_to
+length-up_to [] = refl
+length-up_to (b ∷ s) = pick-if (λ (z : List ℕ). length z ≡ prefix_len (λ c. not (c == 10)) (b ∷ s)) (eqb b 10) (λ e. rw e refl) (λ e. rw (e, length-up_to s) (omega arith))
 
-  pub line-here : at < length text → get_or text at 0 ≡ 10 → length (line_from text at) ≡ 0
-  unfolding line_from
-  line-here h e = rw (drop-cons text at 0 h) (ap length (up_to-newline (get_or text at 0) (drop (suc at) text) e))
+module _ (s : List ℕ) {n : ℕ} (e : n ≡ prefix_len (λ b. not (b == 10)) s) where
+  pub first-line : take n s ≡ up_to s
+  first-line = rw (e, ← (length-up_to s)) (take-up_to s)
 
-  pub line-past : length text ≤ at → length (line_from text at) ≡ 0
-  unfolding line_from up_to
-  line-past h = rw (drop_of_length-le text h)
+  pub behind-line : drop 1 (drop n s) ≡ drop (length (up_to s) + 1) s
+  behind-line = drop-drop 1 n s ∙ rw (e, ← (length-up_to s)) refl
 
-  -- the bytes from the line's start to its end
-  pub line-bytes : (end : ℕ) → end ≡ at + length (line_from text at) → take (end - at) (drop at text) ≡ line_from text at
-  unfolding line_from
-  line-bytes end e =
-      let q : end - at ≡ length (up_to (drop at text)) = omega arith in
-      ap (λ (n : ℕ). take n (drop at text)) q ∙ take-up_to (drop at text)
+  -- what is left has no byte, or a newline and what is behind it
+  pub behind-none : length (drop n s) < 1 → drop n s ≡ drop (length (up_to s) + 1) s
+  behind-none h =
+      let d = length-drop n s in
+      let q : n ≡ length (up_to s) = e ∙ sym (length-up_to s) in
+      drop_of_length-le s {i = n} (omega arith) ∙ sym (drop_of_length-le s {i = length (up_to s) + 1} (omega arith))
 
-  pub lines_from : (end : ℕ) → at < length text → end ≡ at + length (line_from text at)
-      → lines_of (drop at text) ≡ line_from text at ∷ lines_of (drop (end + 1) text)
-  unfolding line_from
-  lines_from end h e =
-      let n = length (up_to (drop at text)) in
-      let q : at + suc n ≡ end + 1 = omega arith in
-      lines-first (drop at text) (let r = length-drop at text in omega arith)
-      ∙ ap (λ (s : List ℕ). up_to (drop at text) ∷ lines_of s) (drop-drop (suc n) at text ∙ ap (λ (k : ℕ). drop k text) q)
+  pub behind-newline : take (length (drop n s) - 1) (drop 1 (drop n s)) ≡ drop (length (up_to s) + 1) s
+  behind-newline = take_all (length (drop n s) - 1) (drop 1 (drop n s)) (rw length-drop (omega arith)) ∙ behind-line
+
+-- a text that has a byte, by its first line and what is behind
+pub lines-split : (s : List ℕ) {line rest : List ℕ} → 0 < length s → line ≡ up_to s → rest ≡ drop (length (up_to s) + 1) s → lines_of s ≡ line ∷ lines_of rest
+lines-split s h e f = lines-first s h ∙ rw (e, f, add-one) refl
 
 -- ---- nothing is lost: a text's lines joined are the text
 joined-first : (e : Bool) (b : ℕ) (l : List ℕ) (ls : List (List ℕ)) → joined_of e (on_first b (l ∷ ls)) ≡ b ∷ joined_of e (l ∷ ls)
@@ -186,3 +185,22 @@ joined-fits e l (m ∷ ls) = simp length-append (omega arith)
 pub joined-none : (e : Bool) → joined_of e [] ≡ []
 unfolding joined_of
 joined-none e = refl
+
+-- ---- a line at a buffer's start, with a newline behind it where there is room
+pub piece-whole : (l : List ℕ) (n : ℕ) → length l < n → piece_of n l ≡ l ++ (10 ∷ [])
+unfolding piece_of
+piece-whole l n h = take_all n (l ++ (10 ∷ [])) (simp length-append (omega arith))
+
+pub piece-full : (l : List ℕ) (n : ℕ) → n ≡ length l → piece_of n l ≡ l
+unfolding piece_of
+piece-full l n h = rw h (take-append_seam l (10 ∷ []))
+
+pub put-newline : (l out : List ℕ) {written : List ℕ} → written ≡ l → length l < length out
+    → set (written ++ drop (length l) out) (length l) 10 ≡ (l ++ (10 ∷ [])) ++ drop (length l + 1) out
+put-newline l out e h =
+    rw (e, drop-cons out (length l) 0 h, add-one) (set-append_seam l _ _ 10 ∙ sym (append_assoc l (10 ∷ []) (drop (suc (length l)) out)))
+
+pub lines-none : (s : List ℕ) → length s ≡ 0 → lines_of s ≡ []
+unfolding lines_of
+lines-none [] h = refl
+lines-none (b ∷ s) h = absurd (omega arith)

@@ -8,54 +8,44 @@ mod output;
 mod place;
 mod split;
 
-ghost use Rattle.std.specs.Prelude.{◌≡◌};
-ghost use Rattle.manifest.specs.Promises.{Sort};
+ghost use Rattle.manifest.specs.Promises.{Sort, sorted_by};
 
-// `refusal` is 0 where the manifest was sorted, and `written` then counts its bytes.
-#[derive(Clone, Copy)]
-pub struct Sorted {
-    pub refusal: u32,
-    pub written: usize,
-}
+use std::fmt;
 
 pub const MOST_BYTES: usize = 65536;
 
 pub const MOST_LINES: usize = 4096;
 
-pub const TOO_LONG: u32 = 1;
+// Why a manifest is not sorted: it has more bytes or more lines than that, or the buffer is shorter than it.
+#[derive(Clone, Copy, Debug, PartialEq, Eq)]
+pub enum SortError {
+    TooLong,
+    TooManyLines,
+    NoRoom,
+}
 
-pub const TOO_MANY_LINES: u32 = 2;
-
-pub const NO_ROOM: u32 = 3;
-
-// Sorts `text` into the start of `out`. A refused call writes nothing.
-pub fn sort(text: &[u8], out: &mut [u8]) -> Sorted
-    ensures { Sort text.now out.old result out.new }
-{
-    if text.len() > MOST_BYTES {
-        return refused(TOO_LONG);
-    }
-    if split::count_lines(text) > MOST_LINES {
-        return refused(TOO_MANY_LINES);
-    }
-    if out.len() < text.len() {
-        return refused(NO_ROOM);
-    }
-    let mut order = [0usize; MOST_LINES];
-    let count = place::order_lines(text, &mut order);
-    output::write_lines(text, &order, count, out);
-    Sorted {
-        refusal: 0,
-        written: text.len(),
+impl fmt::Display for SortError {
+    fn fmt<W: fmt::Write>(&self, f: &mut fmt::Formatter<W>) -> fmt::Result {
+        match self {
+            SortError::TooLong => write!(f, "the manifest has more than {MOST_BYTES} bytes"),
+            SortError::TooManyLines => write!(f, "the manifest has more than {MOST_LINES} lines"),
+            SortError::NoRoom => write!(f, "the buffer is shorter than the manifest"),
+        }
     }
 }
 
-fn refused(refusal: u32) -> Sorted
-    ensures refusal_value { result.refusal ≡ refusal }
-    ensures written_value { result.written ≡ 0 }
+// Sorts `text` into the start of `out`, and counts its bytes. A refused call writes nothing.
+pub fn sort(text: &[u8], out: &mut [u8]) -> Result<usize, SortError>
+    ensures { Sort text.now out.old (sorted_by result) out.new }
 {
-    Sorted {
-        refusal,
-        written: 0,
+    if text.len() > MOST_BYTES {
+        return Err(SortError::TooLong);
     }
+    let mut lines: [&[u8]; MOST_LINES] = [&[]; MOST_LINES];
+    let count = place::order_lines(text, &mut lines).ok_or(SortError::TooManyLines)?;
+    if out.len() < text.len() {
+        return Err(SortError::NoRoom);
+    }
+    output::write_lines(&lines[..count], &mut out[..text.len()]);
+    Ok(text.len())
 }

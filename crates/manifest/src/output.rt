@@ -1,52 +1,31 @@
 // The lines in order, as a text.
-ghost use Rattle.std.specs.Prelude.{◌≡◌, ◌++◌, ◌+◌, ◌-◌, ◌≤◌, length, drop};
-ghost use Rattle.manifest.specs.Lines.{lines_of};
-ghost use Rattle.manifest.specs.Sorted.{sorted_of};
-ghost use Rattle.manifest.specs.Steps.{line_from, pasted_of, piece_of, Sorts};
+ghost use Rattle.std.specs.Prelude.{◌≡◌, ◌≤◌, ◌++◌, Bool, length, drop};
+ghost use Rattle.manifest.specs.Lines.{joined_of};
+ghost use Rattle.manifest.specs.Steps.{lines_in, piece_of};
 
-use crate::split::line_end;
-
-pub fn write_lines(text: &[u8], order: &[usize], count: usize, out: &mut [u8])
-    requires count_value { count ≡ length (lines_of text.now) }
-    requires sorts { Sorts text.now count order.now }
-    requires text_in_bounds { length text.now ≤ length out.old }
-    ensures { out.new ≡ sorted_of text.now ++ drop (length text.now) out.old }
+// Joins the lines into a buffer that is as long as they are together, with a newline behind each of them, or behind each but the last:
+// the buffer's length tells which.
+pub fn write_lines(lines: &[&[u8]], out: &mut [u8])
+    requires { (e : Bool) × (length out.old ≡ length (joined_of e (lines_in lines.now))) }
+    ensures { (e : Bool) → length out.old ≡ length (joined_of e (lines_in lines.now)) → out.new ≡ joined_of e (lines_in lines.now) }
 {
     let mut at = 0usize;
-    let mut k = 0usize;
-    while k < count {
-        at = put_line(text, order[k], at, out);
-        k += 1;
+    for line in lines {
+        at += put_line(line, &mut out[at..]);
     }
 }
 
-// Puts a line at a place of the buffer, with a newline behind it unless the text's length is used up, so that the last line has one
-// exactly where the text ends in one. Gives the place behind.
-fn put_line(text: &[u8], start: usize, at: usize, out: &mut [u8]) -> usize
-    requires start_in_bounds { start ≤ length text.now }
-    requires start_in_bounds_2 { at + length (line_from text.now start) ≤ length text.now }
-    requires text_in_bounds { length text.now ≤ length out.old }
-    ensures value { result ≡ at + length (piece_of (length text.now - at) (line_from text.now start)) }
-    ensures out_after { out.new ≡ pasted_of at (piece_of (length text.now - at) (line_from text.now start)) out.old }
+// Puts a line at the buffer's start, with a newline behind it where there is room for one. Counts its bytes.
+fn put_line(line: &[u8], out: &mut [u8]) -> usize
+    requires { length line.now ≤ length out.old }
+    ensures value { result ≡ length (piece_of (length out.old) line.now) }
+    ensures within { result ≤ length out.old }
+    ensures out_after { out.new ≡ piece_of (length out.old) line.now ++ drop result out.old }
 {
-    let end = line_end(text, start);
-    copy(&text[start..end], at, out);
-    let next = at + (end - start);
-    let left = text.len() - next;
-    if left > 0 {
-        out[next] = b'\n';
-        return next + 1;
+    out[..line.len()].copy_from_slice(line);
+    if line.len() < out.len() {
+        out[line.len()] = b'\n';
+        return line.len() + 1;
     }
-    next
-}
-
-fn copy(bytes: &[u8], at: usize, out: &mut [u8])
-    requires { at + length bytes.now ≤ length out.old }
-    ensures { out.new ≡ pasted_of at bytes.now out.old }
-{
-    let mut k = 0usize;
-    while k < bytes.len() {
-        out[at + k] = bytes[k];
-        k += 1;
-    }
+    line.len()
 }

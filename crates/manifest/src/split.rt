@@ -1,32 +1,23 @@
-// Lines of a text. A line is named by the place where it starts.
-ghost use Rattle.std.specs.Prelude.{◌≡◌, ◌+◌, ◌≤◌, length};
-ghost use Rattle.manifest.specs.Lines.{lines_of};
-ghost use Rattle.manifest.specs.Steps.{line_from};
+// The lines of a text, one after another.
+ghost use Rattle.std.specs.Prelude.{◌≡◌, ◌==◌, ◌≤◌, ◌+◌, not, length, drop};
+ghost use Rattle.std.specs.List.{prefix_len};
+ghost use Rattle.manifest.specs.Steps.{up_to};
 
-// Where a line ends: at its newline, or at the text's end. It is found again wherever it is asked for, so that a line is one number.
-pub fn line_end(text: &[u8], start: usize) -> usize
-    requires { start ≤ length text.now }
-    ensures value { result ≡ start + length (line_from text.now start) }
-    ensures upper_bound { result ≤ length text.now }
+// A text's first line, and what follows its newline.
+pub fn split_line(text: &[u8]) -> (&[u8], &[u8])
+    ensures line { result.0.now ≡ up_to text.now }
+    ensures rest { result.1.now ≡ drop (length (up_to text.now) + 1) text.now }
 {
-    let mut at = start;
-    while at < text.len() {
-        if text[at] == b'\n' {
-            return at;
-        }
-        at += 1;
+    let (line, rest) = text.split_at(line_len(text));
+    match rest {
+        [_newline, after @ ..] => (line, after),
+        [] => (line, rest),
     }
-    at
 }
 
-pub fn count_lines(text: &[u8]) -> usize
-    ensures { result ≡ length (lines_of text.now) }
+fn line_len(text: &[u8]) -> usize
+    ensures value { result ≡ prefix_len (λ b. not (b == 10)) text.now }
+    ensures within { result ≤ length text.now }
 {
-    let mut count = 0usize;
-    let mut at = 0usize;
-    while at < text.len() {
-        at = line_end(text, at) + 1;
-        count += 1;
-    }
-    count
+    text.iter().take_while(|b| **b != b'\n').count()
 }

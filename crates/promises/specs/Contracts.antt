@@ -56,7 +56,7 @@ use Rattle.recorded.specs.Promises as recorded_promises
 use Rattle.line_order.specs.contracts as line_order
 use Rattle.line_order.specs.Promises.{AtMost}
 use Rattle.manifest.specs.contracts as manifest
-use Rattle.manifest.specs.Promises.{Sort}
+use Rattle.manifest.specs.Promises.{Sort, sorted_by}
 
 -- what may be said over a signature
 abbrev pub Saying : Ended → Type 1
@@ -246,4 +246,4 @@ module _ {M : Type 1} {𝓤 : Ura M} (𝓛 : Logic 𝓤) (mem : Memory → SProp
   Lists =
       Says line_order.at_most.ended (line_order.at_most.clauses 𝓛 mem run) (λ _ (a, (b, _)) r _. AtMost a.now b.now r)
       × Says manifest.sort.ended (manifest.sort.clauses 𝓛 mem run)
-      (λ _ (text, (out, _)) r (_, (out', _)). Sort text.now out.now r out'.now)
+      (λ _ (text, (out, _)) r (_, (out', _)). Sort text.now out.now (sorted_by r) out'.now)

@@ -6,43 +6,66 @@
 
 mod input;
 
-use input::{Input, read_all};
+use input::{InputError, read_all};
+use manifest::{MOST_BYTES, SortError};
 use pipe::write_all;
-use std::io::Write;
+use std::fmt;
+use std::io::{Read, Write};
+
+// Why the sorted manifest was not written.
+#[derive(Clone, Copy, Debug, PartialEq, Eq)]
+enum Failure {
+    Input(InputError),
+    Sort(SortError),
+    Write,
+}
+
+impl From<InputError> for Failure {
+    fn from(e: InputError) -> Failure {
+        Failure::Input(e)
+    }
+}
+
+impl From<SortError> for Failure {
+    fn from(e: SortError) -> Failure {
+        Failure::Sort(e)
+    }
+}
+
+impl fmt::Display for Failure {
+    fn fmt<W: fmt::Write>(&self, f: &mut fmt::Formatter<W>) -> fmt::Result {
+        match self {
+            Failure::Input(e) => write!(f, "{e}"),
+            Failure::Sort(e) => write!(f, "{e}"),
+            Failure::Write => write!(f, "a write failed"),
+        }
+    }
+}
 
 fn main(rt: HostRuntime) {
-    let mut stdin = rt.stdin();
-    let mut output = rt.stdout();
-    let mut errors = rt.stderr();
-    let mut text = [0u8; 65536];
-    let input = read_all(&mut stdin, &mut text);
-    match input {
-        Input::Whole(held) => put_sorted(&mut output, &mut errors, &text[..held]),
-        Input::TooLong => complain(
-            &mut errors,
-            b"sort_manifest: the manifest has more than 65536 bytes\n",
-        ),
-        Input::Failed => complain(&mut errors, b"sort_manifest: a read failed\n"),
+    let mut text = [0u8; MOST_BYTES];
+    if let Err(failure) = sort_input(&mut rt.stdin(), &mut rt.stdout(), &mut text) {
+        let _ = writeln!(rt.stderr(), "sort_manifest: {failure}");
     }
 }
 
-// Of the refusals only the one for the lines is left: the text has at most 65,536 bytes, and `out` has as many.
-fn put_sorted<W: Write, E: Write>(output: &mut W, errors: &mut E, text: &[u8]) {
-    let mut out = [0u8; 65536];
-    let sorted = manifest::sort(text, &mut out);
-    if sorted.refusal != 0 {
-        complain(
-            errors,
-            b"sort_manifest: the manifest has more than 4096 lines\n",
-        );
-        return;
-    }
-    let written = sorted.written;
-    if !write_all(output, &out[..written]) {
-        complain(errors, b"sort_manifest: a write failed\n");
-    }
+// Reads, sorts and writes.
+fn sort_input<R: Read, W: Write>(
+    input: &mut R,
+    output: &mut W,
+    text: &mut [u8],
+) -> Result<(), Failure> {
+    let held = read_all(input, text)?;
+    put_sorted(output, &text[..held])
 }
 
-fn complain<E: Write>(errors: &mut E, line: &[u8]) {
-    write_all(errors, line);
+// The text has at most as many bytes as `out`, so that of the refusals only the one for the lines is left.
+fn put_sorted<W: Write>(output: &mut W, text: &[u8]) -> Result<(), Failure> {
+    let mut out = [0u8; MOST_BYTES];
+    let written = manifest::sort(text, &mut out)?;
+    if write_all(output, &out[..written]) {
+        Ok(())
+    } else {
+        Err(Failure::Write)
+    }
 }

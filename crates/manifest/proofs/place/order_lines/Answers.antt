@@ -1,69 +1,43 @@
--- `manifest::place::order_lines` meets its contract: after count turns the first count lines are in order, and the text's other lines
--- lie from `at` on. Assumes nothing.
-use mathlib.Core.Path.{◌≡◌, refl, sym, ap, ◌∙◌}
-use mathlib.Core.List.{List, [], ◌∷◌}
-use Prim.Native.Nat.{ℕ, ◌+◌, ◌<◌, ◌≤◌}
-use native.Mathlib.Nat.{add-zero}
-use native.Mathlib.Omega.{arith}
-use lib.ListN.{length, get_or, drop, length-drop, drop_of_length-le}
-use lib.Seq.{get_or-drop, drop-drop}
+-- `manifest::place::order_lines` meets its contract: after `count` turns the first `count` lines are in order, and the others are those of
+-- `rest`. Assumes nothing.
+use Rattle.std.proofs.Common.{◌∷◌, ◌+◌, ◌≡◌, ◌∙◌, ◌<◌, List, ℕ, refl, ap, arith, rules, subst, length, take, drop, Bor}
+use lib.ListN.{length}
+use Rattle.line_order.specs.Order.{at_most}
 use Rattle.manifest.specs.Lines.{lines_of}
-use Rattle.manifest.specs.Steps.{line_from}
-use Rattle.manifest.proofs.Lines.{lines_from}
-use Rattle.manifest.proofs.Places.{one_more}
+use Rattle.manifest.specs.Sorting.{sort_of, insert_of}
+use Rattle.manifest.specs.Steps.{up_to, lines_in, Holds}
+use Rattle.manifest.proofs.Lines.{lines-split, lines-none}
+use Rattle.manifest.proofs.Places.{sorted-more, rest-more, more-left, holds-all, holds-none, in-order}
 use Rattle.manifest.proofs.place.order_lines.Goals as goal
 
-module _ (text : List ℕ) (count at : ℕ) (e : drop count (lines_of text) ≡ lines_of (drop at text)) where
-  -- the next line is the one that starts here, and behind it are the lines behind
-  next : (end : ℕ) → at < length text → end ≡ at + length (line_from text at)
-      → (count < length (lines_of text)) × (line_from text at ≡ get_or (lines_of text) count []) × (drop (count + 1) (lines_of text) ≡ lines_of (drop (end + 1) text))
-  next end h q =
-      let all = lines_of text in
-      let r : drop count all ≡ line_from text at ∷ lines_of (drop (end + 1) text) = e ∙ lines_from text at end h q in
-      let n = ap length r in
-      let d = length-drop count all in
-      let g : get_or (drop count all) 0 [] ≡ line_from text at = ap (λ (z : List (List ℕ)). get_or z 0 []) r in
-      (omega arith, sym g ∙ get_or-drop count all 0 [] ∙ ap (λ (k : ℕ). get_or all k []) (add-zero count), sym (drop-drop 1 count all) ∙ ap (drop 1) r)
+-- a line more
+next : (all : List (List ℕ)) (s : List ℕ) (n : ℕ) {lent after : List (Bor (List ℕ))} {line rest : List ℕ}
+    → drop n all ≡ lines_of s → 0 < length s → line ≡ up_to s → rest ≡ drop (length (up_to s) + 1) s
+    → Holds lent (sort_of at_most (take n all)) n → Holds after (insert_of at_most line (lines_in (take n lent))) (n + 1)
+    → Holds after (sort_of at_most (take (n + 1) all)) (n + 1) × (drop (n + 1) all ≡ lines_of rest)
+next all s n {lent} {after} {line} {rest} e h p q held put =
+    let f : drop n all ≡ line ∷ lines_of rest = e ∙ lines-split s h p q in (
+      subst (λ (ls : List (List ℕ)). Holds after ls (n + 1)) (ap (insert_of at_most line) held.same ∙ sorted-more all n line (lines_of rest) f) put,
+      rest-more all n line (lines_of rest) f,
+    )
 
-  room : at < length text → count < length (lines_of text)
-  room h = (next (at + length (line_from text at)) h refl).0
+pub loop-rest-init : goal.loop-rest-init
+loop-rest-init c = (refl, holds-none c.args.lines.now, refl)
 
-  end : length text ≤ at → count ≤ length (lines_of text) → count ≡ length (lines_of text)
-  unfolding lines_of
-  end h l =
-      let n = ap length (e ∙ ap lines_of (drop_of_length-le text h)) in
-      let d = length-drop count (lines_of text) in
-      omega arith
+pub returns-then-count-lines : goal.returns-then-count-lines
+returns-then-count-lines c =
+    let m = more-left (lines_of c.args.text.now) c.loop-rest.count (up_to c.loop-rest.rest.now) _
+    (c.loop-rest.invariant.2 ∙ lines-split c.loop-rest.rest.now (search rules) refl refl) in
+    omega arith
 
-pub loop-at-init : goal.loop-at-init
-loop-at-init c = (refl, omega arith, omega arith, refl, c.requires.sorts)
+pub insert-requires-clause-in_order : goal.insert-requires-clause-in_order
+insert-requires-clause-in_order c = in-order _ _ _ c.loop-rest.invariant.1
 
-pub find_place-place-requires : goal.find_place-place-requires
-find_place-place-requires c = record {
-  line_in_bounds = omega arith;
-  sorts = c.loop-at.invariant.4;
-}
-
-pub put_in-requires : goal.put_in-requires
-put_in-requires c = record {
-  place_le_count = let r = room c.args.text.now c.loop-at.count c.loop-at.at c.loop-at.invariant.3 (omega arith) in
-      c.find_place-place.ensures.within;
-  count_in_bounds = let r = room c.args.text.now c.loop-at.count c.loop-at.at c.loop-at.invariant.3 (omega arith) in
-      omega arith;
-}
-
-pub loop-at-preserved : goal.loop-at-preserved
-loop-at-preserved c = let n = next c.args.text.now c.loop-at.count c.loop-at.at c.loop-at.invariant.3 c.line_end-at.result (omega arith) c.line_end-at.ensures.value in (
-  c.put_in.auto.order ∙ c.loop-at.invariant.0,
-  omega arith,
-  omega (arith, n.0),
-  n.2,
-  one_more c.args.text.now c.loop-at.order c.loop-at.count c.loop-at.invariant.4
-      c.loop-at.at c.find_place-place.result c.find_place-place.ensures c.put_in.new.order c.put_in.ensures c.put_in.auto.order (omega (arith, n.0)) (omega arith) n.0 n.1,
-)
+pub loop-rest-preserved : goal.loop-rest-preserved
+loop-rest-preserved c =
+    let n = next (lines_of c.args.text.now) c.loop-rest.rest.now c.loop-rest.count c.loop-rest.invariant.2 (search rules) c.split_line.ensures.line
+    c.split_line.ensures.rest c.loop-rest.invariant.1 c.insert.ensures in
+    (c.insert.auto.lines ∙ c.loop-rest.invariant.0, n.0, n.1)
 
 pub returns : goal.returns
-returns c = record {
-  value = end c.args.text.now c.loop-at.count c.loop-at.at c.loop-at.invariant.3 (omega arith) c.loop-at.invariant.2;
-  sorts_2 = c.loop-at.invariant.4;
-}
+returns c = holds-all _ _ c.loop-rest.count (c.loop-rest.invariant.2 ∙ lines-none c.loop-rest.rest.now (search rules)) c.loop-rest.invariant.1
