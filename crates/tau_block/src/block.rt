@@ -9,11 +9,11 @@ ghost use Rattle.tau_block.specs.Block.{listen};
 ghost use Rattle.tau_block.specs.Groups.{filtered, compares, delivered};
 ghost use Rattle.tau_block.specs.Lent.{filtered_of, judgement_of, delivered_of, playing_of, mic_block, microphone_of, listened_of, no_suppressor, bare};
 
-use tau_detector::detector::double_talk_block;
+use tau_detector::lent::double_talk_block;
 use tau_filter::filter::{Checked, output_estimate, shadow_estimate};
-use tau_guard::lent::guard;
-use tau_guard::lent::host_powers;
-use tau_paths::paths::{Compared, Conditions, compare};
+use tau_guard::lent::{guard, host_powers};
+use tau_paths::lent::{Compared, compare};
+use tau_paths::paths::Conditions;
 use tau_state::report::Told;
 use tau_state::state::{DTD_ESTABLISH_BLOCKS, Detector, Guard, MicRest, Paths, Powers};
 use tau_state::sums::energy;

@@ -107,15 +107,15 @@ fn learn(d: Detector, c: f64) -> Detector
 // The detector after a block; its verdict stands in it. It learns from far-active blocks, but not from one in which the microphone is
 // muted (request K5): there the near energy is 0.
 pub fn double_talk_block(
-    d: Detector,
+    detector: &mut Detector,
     far_is_active: bool,
     near_energy: f64,
     near: &[f32; 256],
     estimate: &[f32; 256],
     valid: usize,
-) -> Detector
+)
     requires { valid ≤ 256 }
-    ensures { result ≡ judged far_is_active near_energy near.now estimate.now valid d }
+    ensures { detector.new ≡ judged far_is_active near_energy near.now estimate.now valid detector.old }
 {
     let is_evidence = far_is_active & !(near_energy == 0.0);
     if is_evidence {
@@ -124,9 +124,8 @@ pub fn double_talk_block(
             near_energy,
             energy(estimate, valid),
         );
-        return learn(d, c);
+        *detector = learn(*detector, c);
+    } else {
+        detector.double_talk = detector.dtd_collapsed | detector.protect_output;
     }
-    let mut t = d;
-    t.double_talk = d.dtd_collapsed | d.protect_output;
-    t
 }

@@ -2,3 +2,4 @@
 #![tactic(auto)]
 
 pub mod detector;
+pub mod lent;

@@ -2,9 +2,9 @@
 ghost use Rattle.std.specs.Prelude.{◌≡◌, ◌≤◌, length};
 ghost use Rattle.laws.specs.Choice.{pick};
 ghost use Rattle.laws.specs.Counting.{one_more32};
-ghost use Rattle.tau_paths.specs.Paths.{weighed, leak_of, reason_of, acted, compared};
+ghost use Rattle.tau_paths.specs.Paths.{weighed, leak_of, reason_of, acted, runs, weighed_if, compared};
 
-use tau_clears::weights::{copy, leak_to};
+use tau_clears::weights::leak_to;
 use tau_state::report::{Outcome, Reason, outcome_of};
 use tau_state::state::Paths;
 use tau_state::sums::{energy, one_more, one_more_32, smooth};
@@ -32,10 +32,9 @@ pub struct Conditions {
     pub established: bool,
 }
 
+// Whether the shadow was rescued, and why the output filter stood still or that it moved.
 #[derive(Clone, Copy)]
 pub struct Compared {
-    pub paths: Paths,
-    pub transfers: u64,
     pub rescued: bool,
     pub reason: Reason,
 }
@@ -102,47 +101,55 @@ fn decide(asked: Conditions, q: Paths) -> Reason
     Reason::Moved(leak(advantage))
 }
 
-// What is done is the reason's outcome, and nothing else decides it.
-fn act(reason: Reason, q: Paths, transfers: u64, shadow: &mut [f64], output: &mut [f64]) -> Compared
+// What is done is the reason's outcome, and nothing else decides it. Whether it is a rescue.
+fn act(
+    reason: Reason,
+    paths: &mut Paths,
+    transfers: &mut u64,
+    shadow: &mut [f64],
+    output: &mut [f64],
+) -> bool
     requires { length shadow.old ≡ length output.old }
-    ensures { record { paths = result.paths; transfers = result.transfers; rescued = result.rescued; reason = result.reason; shadow = shadow.new; output = output.new } ≡ acted reason q transfers shadow.old output.old }
+    ensures { record { paths = paths.new; transfers = transfers.new; rescued = result; reason = reason; shadow = shadow.new; output = output.new } ≡ acted reason paths.old transfers.old shadow.old output.old }
 {
-    let outcome = outcome_of(reason);
-    match outcome {
+    match outcome_of(reason) {
         Outcome::Rescue => {
-            copy(shadow, output);
-            let mut p = q;
-            p.shadow_error_power = q.output_error_power;
-            p.rescue_streak = 0;
-            Compared {
-                paths: p,
-                transfers,
-                rescued: true,
-                reason,
-            }
+            shadow.copy_from_slice(output);
+            paths.shadow_error_power = paths.output_error_power;
+            paths.rescue_streak = 0;
+            true
         }
         Outcome::Move(leak) => {
             leak_to(output, shadow, leak);
-            Compared {
-                paths: q,
-                transfers: one_more(transfers),
-                rescued: false,
-                reason,
-            }
+            *transfers = one_more(*transfers);
+            false
         }
-        Outcome::NoMove => Compared {
-            paths: q,
-            transfers,
-            rescued: false,
-            reason,
-        },
-        Outcome::NotRun => Compared {
-            paths: q,
-            transfers,
-            rescued: false,
-            reason,
-        },
+        Outcome::NoMove | Outcome::NotRun => false,
     }
+}
+
+fn runs(asked: Conditions) -> bool
+    ensures { result ≡ runs asked }
+{
+    !asked.flushing & !asked.diverged & asked.far_is_active & asked.established
+}
+
+// The powers and streaks that are decided on. Where the comparison does not run they stay.
+fn weigh_if_run(
+    asked: Conditions,
+    quiet: bool,
+    shadow_error: &[f32; 256],
+    error: &[f32; 256],
+    valid: usize,
+    p: Paths,
+) -> Paths
+    requires { valid ≤ 256 }
+    ensures { result ≡ weighed_if asked quiet shadow_error.now error.now valid p }
+{
+    if runs(asked) {
+        return weigh(quiet, energy(shadow_error, valid), energy(error, valid), p);
+    }
+    p
 }
 
 pub fn compare(
@@ -151,20 +158,18 @@ pub fn compare(
     shadow_error: &[f32; 256],
     error: &[f32; 256],
     valid: usize,
-    p: Paths,
-    transfers: u64,
+    paths: &mut Paths,
+    transfers: &mut u64,
     shadow: &mut [f64],
     output: &mut [f64],
 ) -> Compared
     requires valid_bound { valid ≤ 256 }
     requires shadow_len { length shadow.old ≡ length output.old }
-    ensures { record { paths = result.paths; transfers = result.transfers; rescued = result.rescued; reason = result.reason; shadow = shadow.new; output = output.new } ≡ compared asked quiet shadow_error.now error.now valid p transfers shadow.old output.old }
+    ensures { record { paths = paths.new; transfers = transfers.new; rescued = result.rescued; reason = result.reason; shadow = shadow.new; output = output.new } ≡ compared asked quiet shadow_error.now error.now valid paths.old transfers.old shadow.old output.old }
 {
-    if !asked.flushing & !asked.diverged & asked.far_is_active & asked.established {
-        let q = weigh(quiet, energy(shadow_error, valid), energy(error, valid), p);
-        let reason = decide(asked, q);
-        return act(reason, q, transfers, shadow, output);
-    }
-    let reason = decide(asked, p);
-    act(reason, p, transfers, shadow, output)
+    let weighed = weigh_if_run(asked, quiet, shadow_error, error, valid, *paths);
+    let reason = decide(asked, weighed);
+    *paths = weighed;
+    let rescued = act(reason, paths, transfers, shadow, output);
+    Compared { rescued, reason }
 }

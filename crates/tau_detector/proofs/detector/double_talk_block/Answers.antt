@@ -7,6 +7,6 @@ pub returns-then-is_evidence : goal.returns-then-is_evidence
 unfolding judged stands
 returns-then-is_evidence c = pick_yes _ _ _ c.if-is_evidence.true (cc)
 
-pub returns : goal.returns
+pub returns-else-is_evidence : goal.returns-else-is_evidence
 unfolding judged stands
-returns c = pick_no _ _ _ c.if-is_evidence.false (refl)
+returns-else-is_evidence c = pick_no _ _ _ c.if-is_evidence.false (refl)

@@ -1,9 +1,10 @@
 use Rattle.tau_paths.specs.Paths.{acted, settled, counted, shadow_after, output_after, is_rescue}
+use Rattle.std.proofs.Common.{inl, inr}
 use Rattle.tau_paths.proofs.paths.act.Goals as goal
 
 pub returns-in-Rescue : goal.returns-in-Rescue
 unfolding acted settled counted shadow_after output_after is_rescue
-returns-in-Rescue c = rw (← c.in-Rescue.ensures, c.copy.ensures)
+returns-in-Rescue c = rw (← c.in-Rescue.ensures, c.copy_from_slice.ensures.after)
 
 pub returns-in-Move : goal.returns-in-Move
 unfolding acted settled counted shadow_after output_after is_rescue
@@ -11,8 +12,4 @@ returns-in-Move c = rw (← c.in-Move.ensures, c.leak_to.ensures, c.one_more.ens
 
 pub returns-in-NoMove : goal.returns-in-NoMove
 unfolding acted settled counted shadow_after output_after is_rescue
-returns-in-NoMove c = rw (← c.in-NoMove.ensures)
-
-pub returns-in-NotRun : goal.returns-in-NotRun
-unfolding acted settled counted shadow_after output_after is_rescue
-returns-in-NotRun c = rw (← c.in-NotRun.ensures)
+returns-in-NoMove c = elim c.in-NoMove.is [ inl e ↦ rw (← c.outcome_of.ensures, e) | inr e ↦ rw (← c.outcome_of.ensures, e) ]
