@@ -13,33 +13,28 @@ use tau_state::sums::energy;
 
 const FAR_ACTIVITY_FRACTION: f64 = 1e-4;
 
-pub(crate) fn sounding(b: &[f32; 256]) -> bool
-    ensures { result ≡ sounds b.now 256 }
+// No branch here, so that the compiler takes several at once.
+pub(crate) fn sounding(block: &[f32; 256]) -> bool
+    ensures { result ≡ sounds block.now 256 }
 {
     let mut on = false;
-    let mut i = 0usize;
-    while i < 256 {
-        on = on | (b[i] != 0.0);
-        i += 1;
+    for sample in block {
+        on = on | (*sample != 0.0);
     }
     on
 }
 
-pub(crate) fn peak(old: f64, e: f64) -> f64
-    ensures { result ≡ energy_peak old e }
+#[tactic(auto, unfolding(crate::specs::Far::energy_peak, laws::specs::Choice::pick))]
+pub(crate) fn peak(old: f64, energy: f64) -> f64
+    ensures { result ≡ energy_peak old energy }
 {
-    if old < e {
-        return e;
-    }
-    old
+    if old < energy { energy } else { old }
 }
 
-pub(crate) fn driving(peak: f64, e: f64) -> bool
-    ensures { result ≡ drives peak e }
+pub(crate) fn driving(peak: f64, energy: f64) -> bool
+    ensures { result ≡ drives peak energy }
 {
-    let heard = 0.0 < peak;
-    let above = FAR_ACTIVITY_FRACTION * peak < e;
-    heard & above
+    (0.0 < peak) & (FAR_ACTIVITY_FRACTION * peak < energy)
 }
 
 // The spectrum of the window, in a slot of the ring.

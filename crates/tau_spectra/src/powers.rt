@@ -1,5 +1,5 @@
 // The powers of the stored spectra, kept so that no block squares them all again.
-ghost use Rattle.std.specs.Prelude.{◌≡◌, ◌≤◌, ◌<◌, ◌*◌, length, get_or};
+ghost use Rattle.std.specs.Prelude.{◌≡◌, ◌≤◌, ◌<◌, ◌*◌, ◌/◌, length, get_or};
 ghost use Rattle.std.specs.Float.{nan, binary64};
 ghost use Rattle.std.specs.Float.Ieee.{add};
 ghost use Rattle.laws.specs.Loops.{over};
@@ -9,27 +9,30 @@ ghost use Rattle.tau_spectra.specs.Powers.{powers_of, kept_power_to, four_on};
 use crate::bins::power;
 
 // A spectrum's powers, bin by bin.
-fn square(x: &[f64], powers: &mut [f64])
-    requires { (length x.now ≡ 514) × (length powers.old ≡ 257) }
-    ensures { powers.new ≡ powers_of x.now }
+fn square(spectrum: &[f64], powers: &mut [f64])
+    requires spectrum_len { length spectrum.now ≡ 514 }
+    requires powers_len { length powers.old ≡ 257 }
+    ensures { powers.new ≡ powers_of spectrum.now }
 {
-    let mut k = 0usize;
-    while k < 257 {
-        powers[k] = power(x, k);
-        k += 1;
+    for k in 0..257 {
+        powers[k] = power(spectrum, k);
     }
 }
 
 // The powers of the spectrum in a slot, in the same slot of theirs.
 pub fn keep(spectra: &[f64], powers: &mut [f64], slot: usize, partitions: usize)
-    requires { (length spectra.now ≡ 514 * partitions) × (length powers.old ≡ 257 * partitions) × (slot < partitions) × (partitions ≤ 32) }
+    requires spectra_len { length spectra.now ≡ 514 * partitions }
+    requires powers_len { length powers.old ≡ 257 * partitions }
+    requires slot_in_ring { slot < partitions }
+    requires at_most_32 { partitions ≤ 32 }
     ensures { powers.new ≡ with_part 257 slot powers.old (powers_of (part 514 slot spectra.now)) }
 {
-    let a = 514 * slot;
-    let e = a + 514;
-    let b = 257 * slot;
-    let be = b + 257;
-    square(&spectra[a..e], &mut powers[b..be]);
+    let start = 514 * slot;
+    let place = 257 * slot;
+    square(
+        &spectra[start..start + 514],
+        &mut powers[place..place + 257],
+    );
 }
 
 // One slot's powers, bin by bin onto the sum.
@@ -37,10 +40,8 @@ fn add_slot(sum: &mut [f64; 257], powers: &[f64])
     requires { length powers.now ≡ 257 }
     ensures { sum.new ≡ over 257 (λ k a. add binary64 a (get_or powers.now k nan)) sum.old }
 {
-    let mut k = 0usize;
-    while k < 257 {
+    for k in 0..257 {
         sum[k] = sum[k] + powers[k];
-        k += 1;
     }
 }
 
@@ -49,40 +50,33 @@ fn add_four(sum: &mut [f64; 257], powers: &[f64])
     requires { length powers.now ≡ 1028 }
     ensures { sum.new ≡ over 257 (four_on powers.now) sum.old }
 {
-    let mut k = 0usize;
-    while k < 257 {
+    for k in 0..257 {
         sum[k] = sum[k] + powers[k] + powers[257 + k] + powers[514 + k] + powers[771 + k];
-        k += 1;
     }
 }
 
-// The sum of the slots that make whole fours, and how many these are.
-fn add_fours(powers: &[f64], partitions: usize, sum: &mut [f64; 257]) -> usize
-    requires { (length powers.now ≡ 257 * partitions) × (partitions ≤ 32) }
-    ensures sum_after { sum.new ≡ kept_power_to powers.now result }
-    ensures upper_bound { result ≤ partitions }
+// The sum of the slots that make whole fours.
+fn add_fours(powers: &[f64], partitions: usize, sum: &mut [f64; 257])
+    requires powers_len { length powers.now ≡ 257 * partitions }
+    requires at_most_32 { partitions ≤ 32 }
+    ensures { sum.new ≡ kept_power_to powers.now (4 * (partitions / 4)) }
 {
     *sum = [0.0f64; 257];
-    let mut slot = 0usize;
-    while slot + 4 <= partitions {
-        let a = 257 * slot;
-        let e = a + 1028;
-        add_four(sum, &powers[a..e]);
-        slot += 4;
+    for four in 0..partitions / 4 {
+        let start = 1028 * four;
+        add_four(sum, &powers[start..start + 1028]);
     }
-    slot
 }
 
 // By slot and not by age: the source's order, and another one would round otherwise.
 pub fn far_power_of(powers: &[f64], partitions: usize, sum: &mut [f64; 257])
-    requires { (length powers.now ≡ 257 * partitions) × (partitions ≤ 32) }
+    requires powers_len { length powers.now ≡ 257 * partitions }
+    requires at_most_32 { partitions ≤ 32 }
     ensures { sum.new ≡ kept_power_to powers.now partitions }
 {
-    let mut slot = add_fours(powers, partitions, sum);
-    while slot < partitions {
-        let a = 257 * slot;
-        let e = a + 257;
-        add_slot(sum, &powers[a..e]);
-        slot += 1;
+    add_fours(powers, partitions, sum);
+    for slot in 4 * (partitions / 4)..partitions {
+        let start = 257 * slot;
+        add_slot(sum, &powers[start..start + 257]);
     }
 }

@@ -17,26 +17,35 @@ impl<'a> FarRing<'a> {
     ghost use Rattle.tau_spectra.specs.FarRing.{ring_in};
     ghost use Rattle.tau_spectra.specs.Ring.{met_by};
 
+    // The slot of the spectrum that partition p meets: the newest for the first, then by age.
+    #[tactic(auto, unfolding(crate::specs::Ring::slot_of))]
+    fn slot_of(&self, p: usize) -> usize
+        requires { p < self.now.partitions }
+        ensures slot { result ≡ slot_of self.now.head self.now.partitions p }
+        ensures in_ring { result < self.now.partitions }
+    {
+        (self.head + self.partitions - p) % self.partitions
+    }
+
     // The spectrum that partition p meets.
     pub fn met_by(&self, p: usize) -> &'a [f64]
         requires { p < self.now.partitions }
         ensures spectrum { result.now ≡ met_by (ring_in self.now) p }
         ensures bins { length result.now ≡ 514 }
     {
-        let start = 514 * slot_of(self.head, self.partitions, p);
-        let end = start + 514;
-        &self.spectra[start..end]
+        let start = 514 * self.slot_of(p);
+        &self.spectra[start..start + 514]
     }
 }
 
+#[tactic(auto, unfolding(crate::specs::Ring::next_slot, laws::specs::Choice::pick))]
 pub fn next_slot(partitions: usize, head: usize) -> usize
-    requires { (partitions ≤ 32) × (head < partitions) }
-    ensures { (result ≡ next_slot partitions head) × (result < partitions) }
+    requires at_most_32 { partitions ≤ 32 }
+    requires head_in_ring { head < partitions }
+    ensures next { result ≡ next_slot partitions head }
+    ensures in_ring { result < partitions }
 {
-    if head + 1 == partitions {
-        return 0;
-    }
-    head + 1
+    if head + 1 == partitions { 0 } else { head + 1 }
 }
 
 pub fn slot_of(head: usize, parts: usize, p: usize) -> usize

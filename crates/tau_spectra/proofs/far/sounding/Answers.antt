@@ -1,31 +1,15 @@
-use Rattle.tau_spectra.specs.Far.{sounds}
+use Rattle.std.proofs.Common.{rules}
 use Rattle.laws.specs.Loops.{loops}
-use borrow.Author.Rules.{rules}
+use Rattle.tau_spectra.specs.Far.{sounds}
 use Rattle.tau_spectra.proofs.far.sounding.Goals as goal
 
-pub loop-i-init : goal.loop-i-init
+pub loop-sample-init : goal.loop-sample-init
 unfolding sounds
-loop-i-init c = search (rules, loops)
+loop-sample-init c = search (rules, loops)
 
-pub offset_bounds-b-i : goal.offset_bounds-b-i
+pub loop-sample-preserved : goal.loop-sample-preserved
 unfolding sounds
-offset_bounds-b-i c = search (rules, loops)
-
-pub bounds-b-i : goal.bounds-b-i
-unfolding sounds
-bounds-b-i c = search (rules, loops)
-
-pub overflow_add-i : goal.overflow_add-i
-unfolding sounds
-overflow_add-i c = search (rules, loops)
-
-pub loop-i-smaller : goal.loop-i-smaller
-unfolding sounds
-loop-i-smaller c = search (rules, loops)
-
-pub loop-i-preserved : goal.loop-i-preserved
-unfolding sounds
-loop-i-preserved c = search (rules, loops)
+loop-sample-preserved c = search (rules, loops)
 
 pub returns : goal.returns
 unfolding sounds

@@ -1,24 +1,18 @@
+use Rattle.std.proofs.Common.{rules, arith, ◌≡◌, ◌+◌, ◌-◌, ◌*◌}
+use Rattle.std.proofs.Math.Nat.{add-sub_cancel_left}
+use Rattle.laws.specs.Loops.{loops}
 use Rattle.tau_spectra.specs.Powers.{kept_power_to}
 use Rattle.tau_spectra.proofs.Fours.{four-turn}
-use mathlib.Core.Path.{◌≡◌}
-use Prim.Native.Nat.{◌-◌, ◌+◌, ◌*◌}
-use native.Mathlib.Nat.{add-sub_cancel_left}
-use Rattle.laws.specs.Loops.{loops}
-use borrow.Author.Rules.{rules}
 use Rattle.tau_spectra.proofs.powers.add_fours.Goals as goal
 
-pub loop-slot-init : goal.loop-slot-init
+pub loop-four-init : goal.loop-four-init
 unfolding kept_power_to
-loop-slot-init c = search (rules, loops)
+loop-four-init c = search (rules, loops)
 
-pub loop-slot-preserved : goal.loop-slot-preserved
-unfolding kept_power_to
-loop-slot-preserved c = let four : 257 * c.loop-slot.slot + 1028 - 257 * c.loop-slot.slot ≡ 1028 = add-sub_cancel_left (257 * c.loop-slot.slot) 1028 in
-    (search rules, four-turn c.args.powers.now c.loop-slot.slot c.loop-slot.invariant.1 (rw four at c.add_four.ensures))
-
-pub returns : goal.returns
-unfolding kept_power_to
-returns c = record {
-  sum_after = c.loop-slot.invariant.1;
-  upper_bound = c.loop-slot.invariant.0;
-}
+pub loop-four-preserved : goal.loop-four-preserved
+loop-four-preserved c =
+    let four = c.loop-four.four in
+    let size : 1028 * four + 1028 - 1028 * four ≡ 1028 = add-sub_cancel_left (1028 * four) 1028 in
+    let place : 1028 * four ≡ 257 * (4 * four) = omega arith in
+    let next : 4 * (four + 1) ≡ 4 * four + 4 = omega arith in
+    rw next (four-turn c.args.powers.now (4 * four) c.loop-four.invariant (rw (size, place) at c.add_four.ensures))

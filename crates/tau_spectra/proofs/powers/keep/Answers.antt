@@ -1,6 +1,5 @@
+use Rattle.std.proofs.Common.{refl, ◌*◌}
 use Rattle.laws.specs.Parts.{part-is, with-is}
-use mathlib.Core.Path.{refl}
-use Prim.Native.Nat.{◌*◌}
 use Rattle.tau_spectra.proofs.powers.keep.Goals as goal
 
 pub returns : goal.returns
