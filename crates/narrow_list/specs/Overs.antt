@@ -1,10 +1,16 @@
 -- How many numbers of a list go over. Definitions only.
-use Rattle.std.specs.Prelude.{List, [], ◌∷◌, map, ℕ, ◌+◌, Float}
+use Rattle.std.specs.Prelude.{List, [], ◌∷◌, map, ℕ, ◌+◌, Bool, true, false, Float}
 use Rattle.std.specs.Float.{binary64}
 use Rattle.std.specs.Float.Ieee.{mul}
 use Rattle.numbers.specs.Narrowing.{kind_of}
 use Rattle.numbers.specs.declared.narrowing.Kind.{Kind}
 use Rattle.numbers.specs.declared.narrowing.Kind.TheVariants.{Exact, Rounded, Over}
+
+-- whether a number of this kind went over
+abbrev pub is_over : Kind → Bool
+is_over Exact = false
+is_over Rounded = false
+is_over Over = true
 
 -- what a number of this kind adds to the count
 unfoldable pub over_one : Kind → ℕ

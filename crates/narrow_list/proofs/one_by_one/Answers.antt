@@ -1,25 +1,28 @@
 -- `narrow_list::one_by_one` meets its contract. Assumes nothing.
-use mathlib.Core.Path.{◌≡◌, sym}
-use Prim.Native.Nat.{◌+◌}
+use mathlib.Core.Path.{refl, sym, ap, ◌∙◌}
 use native.Mathlib.Omega.{arith}
-use borrow.Author.Rules.{rules}
-use lib.Ieee.{nan}
-use lib.ListN.{get_or, length-set}
-use Rattle.laws.specs.Loops.{loops, over_at-turn}
-use Rattle.narrow_list.proofs.OverCounts.{overs-start, overs-next, overs-table}
+use lib.Seq.{take_all}
+use Rattle.numbers.specs.Narrowing.{narrow_of}
+use Rattle.narrow_list.specs.Overs.{over_count}
+use Rattle.narrow_list.proofs.Groups.{front-none, front-next, front-whole}
+use Rattle.narrow_list.proofs.OverCounts.{overs-take, overs-one, one-bit}
 use Rattle.narrow_list.proofs.one_by_one.Goals as goal
 
 pub loop-k-init : goal.loop-k-init
-loop-k-init c = (search (rules, loops), search rules, search (rules, loops), overs-start _)
+unfolding over_count
+loop-k-init c = (front-none _ _ _, refl)
 
 pub overflow_add-overs : goal.overflow_add-overs
-overflow_add-overs c = omega (arith, c.over_one-overs.ensures.1, c.loop-k.invariant.3, overs-table c.loop-k.k (λ j. get_or c.args.xs.now (c.args.at + j) nan))
+overflow_add-overs c = omega (arith, c.loop-k.invariant.1, overs-take c.loop-k.k c.args.xs.now, c.from-overs.ensures, one-bit c.went_over.result)
 
 pub loop-k-preserved : goal.loop-k-preserved
-loop-k-preserved c = (simp length-set c.loop-k.invariant.0, omega arith, over_at-turn _ _ _ _ c.loop-k.invariant.2 (rw c.narrow-y.ensures), rw (c.loop-k.invariant.3, c.over_one-overs.ensures.0) (sym (overs-next c.loop-k.k _)))
+loop-k-preserved c = (
+  front-next narrow_of _ _ _ c.loop-k.invariant.0 (omega arith) (omega arith) c.narrow-y.ensures,
+  rw (c.loop-k.invariant.1, c.from-overs.ensures, c.went_over.ensures) (sym (overs-one c.loop-k.k c.args.xs.now (omega arith))),
+)
 
 pub returns : goal.returns
 returns c = record {
-  out_after = let e : c.loop-k.k ≡ c.args.count = omega arith in rw e at c.loop-k.invariant.2;
-  value = let e : c.loop-k.k ≡ c.args.count = omega arith in rw e at c.loop-k.invariant.3;
+  out_after = front-whole c.loop-k.invariant.0 (omega arith) c.requires;
+  overs = c.loop-k.invariant.1 ∙ ap over_count (take_all c.loop-k.k c.args.xs.now (omega arith));
 }
