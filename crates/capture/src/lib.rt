@@ -4,9 +4,11 @@
 // nothing.
 #![tactic(auto)]
 
+mod programs;
+
 ghost use Rattle.capture.specs.Promises.{Feed, Finish};
 
-use numbers::lesser;
+pub use programs::Engine;
 use tau::Answer;
 use tau_state::state::TauCanceller;
 
@@ -22,15 +24,14 @@ pub fn feed(
 ) -> Answer
     ensures { Feed (record { state = s; shadow = shadow.old; output = output.old; spectra = spectra.old; powers = powers.old }) held.now bytes.old result shadow.new output.new spectra.new powers.new bytes.new }
 {
-    let end = lesser(held.len(), 32768);
-    let taken = &held[..end];
+    let taken = &held[..held.len().min(32768)];
     let pairs = wire::whole_pairs(taken);
     let mut near = [0.0f32; 4096];
     let mut far = [0.0f32; 4096];
     wire::read_near(taken, &mut near);
     wire::read_far(taken, &mut far);
     let mut out = [0.0f32; 4096];
-    let room = lesser(bytes.len() / 4, 4096);
+    let room = (bytes.len() / 4).min(4096);
     let answer = tau::process(
         s,
         shadow,
@@ -41,8 +42,7 @@ pub fn feed(
         &far[..pairs],
         &mut out[..room],
     );
-    let delivered = answer.delivered;
-    wire::write_samples(&out[..delivered], bytes);
+    wire::write_samples(&out[..answer.delivered], bytes);
     answer
 }
 
@@ -58,9 +58,8 @@ pub fn finish(
     ensures { Finish (record { state = s; shadow = shadow.old; output = output.old; spectra = spectra.old; powers = powers.old }) bytes.old result shadow.new output.new spectra.new powers.new bytes.new }
 {
     let mut out = [0.0f32; 4096];
-    let room = lesser(bytes.len() / 4, 4096);
+    let room = (bytes.len() / 4).min(4096);
     let answer = tau::flush(s, shadow, output, spectra, powers, &mut out[..room]);
-    let delivered = answer.delivered;
-    wire::write_samples(&out[..delivered], bytes);
+    wire::write_samples(&out[..answer.delivered], bytes);
     answer
 }

@@ -7,23 +7,11 @@ use lib.Seq.{length-take-le}
 use Rattle.capture.proofs.Room.{roomy, taken, few, near-read, far-read, process-front, process-written}
 use Rattle.capture.proofs.feed.Goals as goal
 
-pub slice_bounds-taken-end : goal.slice_bounds-taken-end
-slice_bounds-taken-end c = sym (length-take-le _ _ (omega (arith, c.lesser-end.ensures)))
-
 pub slice_bounds-near-end : goal.slice_bounds-near-end
-slice_bounds-near-end c = let q = few _ _ _ c.whole_pairs-pairs.ensures c.lesser-end.ensures in omega (arith, q, c.read_near.auto.near)
-
-pub slice_bounds-process-end : goal.slice_bounds-process-end
-slice_bounds-process-end c = let q = few _ _ _ c.whole_pairs-pairs.ensures c.lesser-end.ensures in sym (length-take-le _ _ (omega (arith, q, c.read_near.auto.near)))
+slice_bounds-near-end c = let q = few _ _ _ c.whole_pairs-pairs.ensures c.min.ensures in omega (arith, q, c.read_near.auto.near)
 
 pub slice_bounds-far-end : goal.slice_bounds-far-end
-slice_bounds-far-end c = let q = few _ _ _ c.whole_pairs-pairs.ensures c.lesser-end.ensures in omega (arith, q, c.read_far.auto.far)
-
-pub slice_bounds-process-end-2 : goal.slice_bounds-process-end-2
-slice_bounds-process-end-2 c = let q = few _ _ _ c.whole_pairs-pairs.ensures c.lesser-end.ensures in sym (length-take-le _ _ (omega (arith, q, c.read_far.auto.far)))
-
-pub slice_bounds-process-end-3 : goal.slice_bounds-process-end-3
-slice_bounds-process-end-3 c = sym (length-take-le _ _ (omega arith))
+slice_bounds-far-end c = let q = few _ _ _ c.whole_pairs-pairs.ensures c.min.ensures in omega (arith, q, c.read_far.auto.far)
 
 pub slice_bounds-out-end-2 : goal.slice_bounds-out-end-2
 slice_bounds-out-end-2 c = process-front _ _ _ _ _ _ c.process-answer.ensures c.process-answer.auto.out
@@ -32,10 +20,10 @@ pub slice_bounds-write_samples-end : goal.slice_bounds-write_samples-end
 slice_bounds-write_samples-end c = sym (length-take-le _ _ (process-front _ _ _ _ _ _ c.process-answer.ensures c.process-answer.auto.out))
 
 pub returns : goal.returns
-returns c = let q = few _ _ _ c.whole_pairs-pairs.ensures c.lesser-end.ensures in
+returns c = let q = few _ _ _ c.whole_pairs-pairs.ensures c.min.ensures in
     process-written _ _ _ _ _ _ _ c.args.held.now c.args.bytes.now _ c.process-answer.ensures c.process-answer.auto.out
     (near-read _ _ _ _ c.whole_pairs-pairs.ensures q c.read_near.ensures)
     (far-read _ _ _ _ c.whole_pairs-pairs.ensures q c.read_far.ensures)
-    (ap (λ (n : ℕ). take n c.args.held.now) c.lesser-end.ensures ∙ taken 32768 c.args.held.now)
-    (roomy _ c.args.bytes.now c.lesser-room.ensures)
+    (ap (λ (n : ℕ). take n c.args.held.now) c.min.ensures ∙ taken 32768 c.args.held.now)
+    (roomy _ c.args.bytes.now c.min-room.ensures)
     c.write_samples.ensures

@@ -15,4 +15,4 @@ pub slice_bounds-write_samples-end : goal.slice_bounds-write_samples-end
 slice_bounds-write_samples-end c = sym (length-take-le _ _ (flush-front _ _ _ _ c.flush-answer.ensures c.flush-answer.auto.out))
 
 pub returns : goal.returns
-returns c = flush-written _ _ _ _ _ _ c.flush-answer.ensures c.flush-answer.auto.out (roomy _ c.args.bytes.now c.lesser-room.ensures) c.write_samples.ensures
+returns c = flush-written _ _ _ _ _ _ c.flush-answer.ensures c.flush-answer.auto.out (roomy _ c.args.bytes.now c.min-room.ensures) c.write_samples.ensures
