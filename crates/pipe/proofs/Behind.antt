@@ -1,7 +1,7 @@
--- A read behind the bytes that are held. Assumes nothing.
-use Rattle.std.proofs.Common.{◌≡◌, ℕ, ◌+◌, ◌-◌, ◌≤◌, List, ◌++◌, arith, length, take, slice_range, sym, ap, ◌∙◌, subst, le_refl, drop_at, length-take-le, Option}
+-- A read behind the bytes that are held, and one that failed. Assumes nothing.
+use Rattle.std.proofs.Common.{◌≡◌, ℕ, ◌+◌, ◌-◌, ◌≤◌, List, [], ◌++◌, arith, length, take, slice_range, sym, ap, ◌∙◌, subst, le_refl, drop_at, length-take-le, Option, None, Some}
 use Rattle.std.proofs.lemmas.Slice.{take-put_mid_below}
-use Rattle.std.specs.Io.KnownBytes.{Consumes}
+use Rattle.std.specs.Io.KnownBytes.{Consumes, Keeps}
 use Rattle.std.proofs.KnownBytes.{Consumes-trans}
 use borrow.Rule.Slice.PartMut.{put_mid, post_of}
 use lib.Seq.{take-add, take-append-le}
@@ -25,3 +25,9 @@ behind a b c held n old part within fits first second =
     let added = slice_range-put_mid held room n old part within fits in
     let joined = take_split held (held + n) old (put_mid held room old part) (omega arith) (take-put_mid_below _ _ _ _ _ (le_refl _) within) in
     subst (Consumes a c) (ap (λ l. take held old ++ l) (sym added) ∙ joined) (Consumes-trans a b c _ _ first second)
+
+-- of a read that failed no byte is lost
+pub none_lost : (a b : Option (List ℕ)) → Keeps a b → Consumes a b []
+none_lost None b h = tt
+none_lost (Some xs) None h = h
+none_lost (Some xs) (Some ys) h = sym h

@@ -1,10 +1,36 @@
-// Standard input by blocks, and a program's word on standard error: over any reader and writer.
+// Standard input by blocks, standard output, and a program's word on standard error: over any reader and writers.
 #![tactic(auto)]
+
+mod program;
 
 ghost use Rattle.std.specs.Prelude.{◌≡◌, ◌≤◌, true, length, take, IfSome, IfNone};
 ghost use Rattle.std.specs.Io.KnownBytes.{Appends, Consumes, Keeps};
+ghost use Rattle.pipe.specs.Held.{held_of};
 
+pub use program::{ProgramError, Streams};
 use std::io::{Read, Write};
+
+// A read failed, and before it the block was given so many bytes.
+#[derive(Clone, Copy, Debug, PartialEq, Eq)]
+pub struct ReadFailed {
+    pub held: usize,
+}
+
+// Reads until the block is full or the input ends, and tells how many bytes the block then holds: a read of a pipe may give a part only.
+pub fn fill<R: Read>(input: &mut R, block: &mut [u8]) -> Result<usize, ReadFailed>
+    ensures in_bounds { held_of result ≤ length block.new }
+    ensures bytes { Consumes (R.remaining input.old) (R.remaining input.new) (take (held_of result) block.new) }
+{
+    let mut held = 0;
+    while held < block.len() {
+        match input.read(&mut block[held..]) {
+            Ok(0) => break,
+            Ok(more) => held += more,
+            Err(_) => return Err(ReadFailed { held }),
+        }
+    }
+    Ok(held)
+}
 
 // One read: how many bytes it put at the block's front, none only where the input has ended or the block has no room; or nothing, where it
 // failed.
@@ -28,42 +54,10 @@ pub fn read_full<R: Read>(input: &mut R, block: &mut [u8]) -> usize
     ensures in_bounds { result ≤ length block.new }
     ensures bytes { Consumes (R.remaining input.old) (R.remaining input.new) (take result block.new) }
 {
-    let mut held = 0usize;
-    while held < block.len() {
-        let Some(more) = read_some(input, &mut block[held..]) else {
-            return held;
-        };
-        if more == 0 {
-            return held;
-        }
-        held += more;
+    match fill(input, block) {
+        Ok(held) => held,
+        Err(failed) => failed.held,
     }
-    held
-}
-
-// Reads until the block is full, the input ends or a read fails, which is said: a read of a pipe may give a part only. How many bytes the
-// block then holds.
-pub fn fill<R: Read, W: Write>(
-    input: &mut R,
-    errors: &mut W,
-    program: &[u8],
-    block: &mut [u8],
-) -> usize
-    ensures in_bounds { result ≤ length block.new }
-    ensures bytes { Consumes (R.remaining input.old) (R.remaining input.new) (take result block.new) }
-{
-    let mut held = 0usize;
-    while held < block.len() {
-        let Some(more) = read_some(input, &mut block[held..]) else {
-            complain(errors, program, b": a read failed\n");
-            return held;
-        };
-        if more == 0 {
-            return held;
-        }
-        held += more;
-    }
-    held
 }
 
 // The program's name, and what it has to say.

@@ -4,4 +4,4 @@ use Rattle.pipe.proofs.fill.Goals as goal
 
 pub loop-held-preserved : goal.loop-held-preserved
 loop-held-preserved g c =
-    (search rules, search rules, behind _ _ _ c.loop-held.held c.in-Some.more c.loop-held.block c.read_some.new.block (search rules) c.in-Some.ensures.in_bounds c.loop-held.invariant.2 c.in-Some.ensures.bytes)
+    (search rules, search rules, behind _ _ _ c.loop-held.held c.in-Ok.more c.loop-held.block c.read.new.buf (search rules) c.in-Ok.ensures.bound.0 c.loop-held.invariant.2 c.in-Ok.ensures.bytes.0)
