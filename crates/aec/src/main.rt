@@ -2,9 +2,13 @@
 // makes of it (oracle/capture.rs).
 #![tactic(auto)]
 
+use pipe::Streams;
+
 fn main(rt: HostRuntime) {
-    let mut stdin = rt.stdin();
-    let mut stdout = rt.stdout();
-    let mut stderr = rt.stderr();
-    stream::run(&mut stdin, &mut stdout, &mut stderr);
+    stream::run(&mut Streams {
+        program: "aec",
+        input: rt.stdin(),
+        output: rt.stdout(),
+        errors: rt.stderr(),
+    });
 }

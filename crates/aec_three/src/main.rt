@@ -1,9 +1,13 @@
 // The same program, run on three pairs, document 01's own case.
 #![tactic(auto)]
 
+use pipe::Streams;
+
 fn main(rt: HostRuntime) {
-    let mut stdin = rt.stdin();
-    let mut stdout = rt.stdout();
-    let mut stderr = rt.stderr();
-    stream::run(&mut stdin, &mut stdout, &mut stderr);
+    stream::run(&mut Streams {
+        program: "aec",
+        input: rt.stdin(),
+        output: rt.stdout(),
+        errors: rt.stderr(),
+    });
 }

@@ -6,145 +6,79 @@
 // failed read what was read is still recorded and flushed. No call is refused (theorem `program` of recorded).
 #![tactic(auto)]
 
-mod output;
-
 ghost use Rattle.std.specs.Prelude.{◌≡◌};
-ghost use Rattle.recorded.specs.Program.{engine_by, block_of, flush_of, buffers_by};
+ghost use Rattle.recorded.specs.Program.{engine_by, block_of, flush_of};
 
-use output::emit;
-use pipe::fill;
+use capture::Engine;
+use pipe::{ProgramError, Streams};
 use std::io::{Read, Write};
-use tau_state::state::TauCanceller;
-
-// What a turn leaves to the next: whether to go on, and whether all that was to be written was.
-#[derive(Clone, Copy)]
-pub struct Turn {
-    pub goes_on: bool,
-    pub is_written: bool,
-    pub state: TauCanceller,
-}
 
 fn main(rt: HostRuntime) {
-    let mut stdin = rt.stdin();
-    let mut stdout = rt.stdout();
-    let mut stderr = rt.stderr();
-    let mut shadow = [0.0f64; 2056];
-    let mut output = [0.0f64; 2056];
-    let mut spectra = [0.0f64; 2056];
-    let mut powers = [0.0f64; 1028];
-    let started = tau::create(4, true, &mut shadow, &mut output, &mut spectra, &mut powers);
-    let state = started.state;
-    drive(
-        &mut stdin,
-        &mut stdout,
-        &mut stderr,
-        state,
-        &mut shadow,
-        &mut output,
-        &mut spectra,
-        &mut powers,
-    );
+    let mut streams = Streams {
+        program: "pack",
+        input: rt.stdin(),
+        output: rt.stdout(),
+        errors: rt.stderr(),
+    };
+    if let Err(error) = drive(&mut streams) {
+        streams.say(error);
+    }
 }
 
-// A proved loop has to end, and nothing says that the input does. So it counts its turns down, from a number that no run uses up.
-fn drive<R: Read, W: Write, E: Write>(
-    stdin: &mut R,
-    stdout: &mut W,
-    stderr: &mut E,
-    start: TauCanceller,
-    shadow: &mut [f64],
-    output: &mut [f64],
-    spectra: &mut [f64],
-    powers: &mut [f64],
-) {
+fn drive<R: Read, W: Write, E: Write>(streams: &mut Streams<R, W, E>) -> Result<(), ProgramError> {
+    let mut engine = Engine::new();
     let mut block = [0u8; 4096];
-    let mut state = start;
-    let mut goes_on = true;
-    let mut is_written = true;
-    let mut turns = u64::MAX;
-    while turns > 0 && goes_on {
-        let turn = one_turn(
-            stdin, stdout, stderr, state, &mut block, shadow, output, spectra, powers,
-        );
-        goes_on = turn.goes_on;
-        is_written = turn.is_written;
-        let after = turn.state;
-        state = after;
-        turns -= 1;
+    // Nothing says that the input ends, and a proved loop has to: no run comes to so many blocks.
+    for _ in 0..u64::MAX {
+        let held = streams.fill(&mut block);
+        // A block that is not full is the last, and one with no whole pair is none.
+        if held >= 8 {
+            feed(streams, &mut engine, &block[..held])?;
+        }
+        if held < 4096 {
+            break;
+        }
     }
-    if is_written {
-        finish(stdout, stderr, state, shadow, output, spectra, powers);
-    }
+    finish(streams, &mut engine)
 }
 
-// One block. Where it has no whole pair the input has ended, and there is nothing to record.
-fn one_turn<R: Read, W: Write, E: Write>(
-    stdin: &mut R,
-    stdout: &mut W,
-    stderr: &mut E,
-    state: TauCanceller,
-    block: &mut [u8],
-    shadow: &mut [f64],
-    output: &mut [f64],
-    spectra: &mut [f64],
-    powers: &mut [f64],
-) -> Turn {
-    let held = fill(stdin, stderr, b"pack", block);
-    if held < 8 {
-        return Turn {
-            goes_on: false,
-            is_written: true,
-            state,
-        };
-    }
-    worked(
-        stdout,
-        stderr,
-        &block[..held],
-        state,
-        shadow,
-        output,
-        spectra,
-        powers,
-    )
-}
-
-// The pairs of a block, and what they deliver. All but the writing is said: the engine after it. A block that is not full is the last.
-fn worked<W: Write, E: Write>(
-    stdout: &mut W,
-    stderr: &mut E,
+// The pairs of a block, and what they deliver. All but the writing is said: the engine after it.
+fn feed<R: Read, W: Write, E: Write>(
+    streams: &mut Streams<R, W, E>,
+    engine: &mut Engine,
     held: &[u8],
-    state: TauCanceller,
-    shadow: &mut [f64],
-    output: &mut [f64],
-    spectra: &mut [f64],
-    powers: &mut [f64],
-) -> Turn
-    ensures { record { state = result.state; shadow = shadow.new; output = output.new; spectra = spectra.new; powers = powers.new } ≡ engine_by (block_of (record { state = state; shadow = shadow.old; output = output.old; spectra = spectra.old; powers = powers.old }) held.now) }
+) -> Result<(), ProgramError>
+    ensures { engine.new ≡ engine_by (block_of engine.old held.now) }
 {
     let mut out = [0u8; 6156];
-    let recorded = recorded::feed(state, shadow, output, spectra, powers, held, &mut out);
-    let is_written = emit(stdout, stderr, &out, recorded.written);
-    let after = recorded.state;
-    Turn {
-        goes_on: is_written && held.len() == 4096,
-        is_written,
-        state: after,
-    }
+    let recorded = recorded::feed(
+        engine.state,
+        &mut engine.shadow,
+        &mut engine.output,
+        &mut engine.spectra,
+        &mut engine.powers,
+        held,
+        &mut out,
+    );
+    engine.state = recorded.state;
+    streams.write_all(&out[..recorded.written])
 }
 
-fn finish<W: Write, E: Write>(
-    stdout: &mut W,
-    stderr: &mut E,
-    state: TauCanceller,
-    shadow: &mut [f64],
-    output: &mut [f64],
-    spectra: &mut [f64],
-    powers: &mut [f64],
-)
-    ensures { record { shadow = shadow.new; output = output.new; spectra = spectra.new; powers = powers.new } ≡ buffers_by (flush_of (record { state = state; shadow = shadow.old; output = output.old; spectra = spectra.old; powers = powers.old })) }
+fn finish<R: Read, W: Write, E: Write>(
+    streams: &mut Streams<R, W, E>,
+    engine: &mut Engine,
+) -> Result<(), ProgramError>
+    ensures { engine.new ≡ engine_by (flush_of engine.old) }
 {
     let mut out = [0u8; 1036];
-    let recorded = recorded::finish(state, shadow, output, spectra, powers, &mut out);
-    emit(stdout, stderr, &out, recorded.written);
+    let recorded = recorded::finish(
+        engine.state,
+        &mut engine.shadow,
+        &mut engine.output,
+        &mut engine.spectra,
+        &mut engine.powers,
+        &mut out,
+    );
+    engine.state = recorded.state;
+    streams.write_all(&out[..recorded.written])
 }

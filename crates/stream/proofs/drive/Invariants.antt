@@ -1,10 +1,5 @@
-use mathlib.Core.Path.{◌≡◌}
-use Prim.Native.Nat.{◌<◌}
-use lib.ListN.{length}
+use Rattle.std.proofs.Common.{◌≡◌, ◌<◌, length}
 use Rattle.stream.proofs.drive.Given as goal
 
-abbrev pub invariant-loop-turns : goal.invariant-loop-turns
-invariant-loop-turns g l = ((l.left < 8) × (length l.block ≡ 32776)) × ((length l.shadow ≡ length l.initial.shadow) × ((length l.output ≡ length l.initial.output) × ((length l.spectra ≡ length l.initial.spectra) × (length l.powers ≡ length l.initial.powers))))
-
-abbrev pub decreases-loop-turns : goal.decreases-loop-turns
-decreases-loop-turns g l = l.turns
+abbrev pub invariant-loop : goal.invariant-loop
+invariant-loop g l = (l.left < 8) × (length l.block ≡ 32776)
