@@ -5,190 +5,144 @@
 // a stream is cut into calls does not matter (tau_streams). TauCanceller has four partitions and suppression, as in program `aec`.
 #![tactic(auto)]
 
-mod output;
-
-ghost use Rattle.std.specs.Prelude.{◌≡◌, true, ◌≤◌, length};
-ghost use Rattle.reasons.specs.Note.{course_after, counts_after};
-ghost use Rattle.watch.specs.Watched.{begun_of, fed_by, flushed_by, reset_by, pieces_of};
-
-use numbers::lesser;
-use output::emit;
+use capture::Engine;
+use pipe::{ProgramError, Streams};
 use reasons::course;
 use reasons::course::Course;
 use reasons::note::{note, put_reset, put_stretch};
 use reasons::tally::put_summary;
-use std::io::Write;
-use tau::Answer;
-use tau_state::state::TauCanceller;
+use std::io::{Read, Write};
+use std::marker::Model;
+use tau_state::report::Last;
 
-// Where the run is. `is_written` is whether all that was to be written was.
-#[derive(Clone, Copy)]
+// The engine, where the run is, and how many blocks had each reason, and overs. At most 255 pairs wait for their block.
+#[derive(Drop)]
 pub struct Watch {
-    pub is_written: bool,
-    pub state: TauCanceller,
-    pub course: Course,
+    engine: Engine,
+    course: Course,
+    counts: [u64; 11],
 }
 
-pub fn start(
-    shadow: &mut [f64],
-    output: &mut [f64],
-    spectra: &mut [f64],
-    powers: &mut [f64],
-) -> Watch
-    ensures carried_bound { result.state.carried ≤ 255 }
-    ensures course_after { record { engine = record { state = result.state; shadow = shadow.new; output = output.new; spectra = spectra.new; powers = powers.new }; course = result.course } ≡ begun_of shadow.old output.old spectra.old powers.old }
-{
-    let started = tau::create(4, true, shadow, output, spectra, powers);
-    let state = started.state;
-    Watch {
-        is_written: true,
-        state,
-        course: course::start(),
+impl Model for Watch {
+    ghost use Rattle.std.specs.Prelude.{◌≤◌};
+    ghost use Rattle.watch.specs.Watched.{Watched};
+
+    ghost Value = { Watched };
+
+    ghost view = { λ w. record { engine = w.engine; course = w.course; counts = w.counts } };
+
+    ghost invariant = { λ w. w.engine.state.carried ≤ 255 };
+}
+
+impl Watch {
+    ghost use Rattle.std.specs.Prelude.{◌≡◌, ◌-◌, ◌*◌, ◌<◌, length, replicate, OnOk};
+    ghost use Rattle.reasons.specs.Note.{course_after, counts_after};
+    ghost use Rattle.tau_state.specs.Constants.{zero64};
+    ghost use Rattle.watch.specs.Watched.{begun_of, fed_by, flushed_by, reset_by, pieces_of};
+
+    pub fn new() -> Self
+        ensures begun { record { engine = result.engine; course = result.course } ≡ begun_of (replicate 2056 zero64) (replicate 2056 zero64) (replicate 2056 zero64) (replicate 1028 zero64) }
+        ensures counts { result.counts ≡ replicate 11 0 }
+    {
+        Watch {
+            engine: Engine::new(),
+            course: course::start(),
+            counts: [0; 11],
+        }
     }
-}
 
-// The whole pairs of `bytes`. What is said of the run holds where all was written: after a failed write the rest of them is left.
-pub fn pairs<W: Write>(
-    stdout: &mut W,
-    w: Watch,
-    bytes: &[u8],
-    shadow: &mut [f64],
-    output: &mut [f64],
-    spectra: &mut [f64],
-    powers: &mut [f64],
-    counts: &mut [u64],
-) -> Watch
-    requires carried_bound { w.state.carried ≤ 255 }
-    requires counts_len { length counts.old ≡ 11 }
-    ensures carried_bound_2 { result.state.carried ≤ 255 }
-    ensures counts_after { result.is_written ≡ true → record { engine = record { state = result.state; shadow = shadow.new; output = output.new; spectra = spectra.new; powers = powers.new }; course = result.course; counts = counts.new } ≡ pieces_of (length bytes.now) (record { engine = record { state = w.state; shadow = shadow.old; output = output.old; spectra = spectra.old; powers = powers.old }; course = w.course; counts = counts.old }) bytes.now }
-{
-    let mut after = w;
-    let mut at = 0usize;
-    while at < bytes.len() && after.is_written {
-        let state = after.state;
-        let end = at + lesser(bytes.len() - at, 8 * (256 - state.carried));
-        let next = fed(
-            stdout,
-            after,
-            &bytes[at..end],
-            shadow,
-            output,
-            spectra,
-            powers,
-            counts,
-        );
-        after = next;
-        at = end;
+    // The whole pairs of `bytes`. What is said of the run holds where all was written: after a failed write the rest of them is left.
+    pub fn pairs<R: Read, W: Write, E: Write>(
+        &mut self,
+        streams: &mut Streams<R, W, E>,
+        bytes: &[u8],
+    ) -> Result<(), ProgramError>
+        ensures { OnOk result (self.new ≡ pieces_of (length bytes.now) self.old bytes.now) }
+    {
+        let mut rest = bytes;
+        while rest.len() > 0 {
+            let size = rest.len().min(self.room());
+            self.feed(streams, &rest[..size])?;
+            rest = &rest[size..];
+        }
+        Ok(())
     }
-    after
-}
 
-// One call. Of its buffer for bytes nothing is used: it is as long as that of program `aec`, so that what is proved of its calls holds of
-// this one.
-fn fed<W: Write>(
-    stdout: &mut W,
-    w: Watch,
-    piece: &[u8],
-    shadow: &mut [f64],
-    output: &mut [f64],
-    spectra: &mut [f64],
-    powers: &mut [f64],
-    counts: &mut [u64],
-) -> Watch
-    requires carried_bound { w.state.carried ≤ 255 }
-    requires counts_len { length counts.old ≡ 11 }
-    ensures carried_bound_2 { result.state.carried ≤ 255 }
-    ensures counts_after { record { engine = record { state = result.state; shadow = shadow.new; output = output.new; spectra = spectra.new; powers = powers.new }; course = result.course; counts = counts.new } ≡ fed_by (record { engine = record { state = w.state; shadow = shadow.old; output = output.old; spectra = spectra.old; powers = powers.old }; course = w.course; counts = counts.old }) piece.now }
-{
-    let mut unused = [0u8; 16384];
-    let state = w.state;
-    let course = w.course;
-    let answer = capture::feed(state, shadow, output, spectra, powers, piece, &mut unused);
-    told(stdout, answer, course, counts)
-}
-
-// What waits for its block is a block of its own.
-pub fn flush<W: Write>(
-    stdout: &mut W,
-    w: Watch,
-    shadow: &mut [f64],
-    output: &mut [f64],
-    spectra: &mut [f64],
-    powers: &mut [f64],
-    counts: &mut [u64],
-) -> Watch
-    requires carried_bound { w.state.carried ≤ 255 }
-    requires counts_len { length counts.old ≡ 11 }
-    ensures carried_bound_2 { result.state.carried ≤ 255 }
-    ensures counts_after { record { engine = record { state = result.state; shadow = shadow.new; output = output.new; spectra = spectra.new; powers = powers.new }; course = result.course; counts = counts.new } ≡ flushed_by (record { engine = record { state = w.state; shadow = shadow.old; output = output.old; spectra = spectra.old; powers = powers.old }; course = w.course; counts = counts.old }) }
-{
-    let mut unused = [0u8; 1024];
-    let state = w.state;
-    let course = w.course;
-    let answer = capture::finish(state, shadow, output, spectra, powers, &mut unused);
-    told(stdout, answer, course, counts)
-}
-
-// What a call's report adds, and the line of a stretch that it ends.
-fn told<W: Write>(stdout: &mut W, answer: Answer, course: Course, counts: &mut [u64]) -> Watch
-    requires { length counts.old ≡ 11 }
-    ensures state_value { result.state ≡ answer.state }
-    ensures course_value { result.course ≡ course_after course answer.report.last }
-    ensures counts_after { counts.new ≡ counts_after answer.report.last counts.old }
-{
-    let mut line = [0u8; 143];
-    let report = answer.report;
-    let last = report.last;
-    let noted = note(course, last, counts, &mut line);
-    let is_written = emit(stdout, &line, noted.end);
-    let state = answer.state;
-    let then = noted.course;
-    Watch {
-        is_written,
-        state,
-        course: then,
+    // How many bytes of pairs the block still takes. Before a call there is room for a pair at least.
+    fn room(&self) -> usize
+        ensures value { result ≡ 8 * (256 - self.now.engine.state.carried) }
+        ensures some { 0 < result }
+    {
+        8 * (256 - self.engine.state.carried)
     }
-}
 
-// The engine is reset, which a line says.
-pub fn reset<W: Write>(
-    stdout: &mut W,
-    w: Watch,
-    shadow: &mut [f64],
-    output: &mut [f64],
-    spectra: &mut [f64],
-    powers: &mut [f64],
-) -> Watch
-    requires { w.state.carried ≤ 255 }
-    ensures carried_bound { result.state.carried ≤ 255 }
-    ensures course_after { record { engine = record { state = result.state; shadow = shadow.new; output = output.new; spectra = spectra.new; powers = powers.new }; course = result.course } ≡ reset_by (record { state = w.state; shadow = shadow.old; output = output.old; spectra = spectra.old; powers = powers.old }) w.course }
-{
-    let mut text = [0u8; 149];
-    let state = w.state;
-    let course = w.course;
-    let end = put_reset(course, &mut text);
-    let is_written = emit(stdout, &text, end);
-    let started = tau::reset(state, shadow, output, spectra, powers);
-    let after = started.state;
-    Watch {
-        is_written,
-        state: after,
-        course: course::closed(course),
+    // One call. Of its buffer for bytes nothing is used: it is as long as that of program `aec`, so that what is proved of its calls
+    // holds of this one.
+    fn feed<R: Read, W: Write, E: Write>(
+        &mut self,
+        streams: &mut Streams<R, W, E>,
+        piece: &[u8],
+    ) -> Result<(), ProgramError>
+        ensures { self.new ≡ fed_by self.old piece.now }
+    {
+        let mut unused = [0u8; 16384];
+        let answer = self.engine.feed(piece, &mut unused);
+        self.tell(streams, answer.report.last)
     }
-}
 
-// The last stretch and the summary, where all before them was written. Whether all was.
-pub fn finish<W: Write>(stdout: &mut W, w: Watch, counts: &[u64]) -> bool
-    requires { length counts.now ≡ 11 }
-{
-    if !w.is_written {
-        return false;
+    // What waits for its block is a block of its own.
+    pub fn flush<R: Read, W: Write, E: Write>(
+        &mut self,
+        streams: &mut Streams<R, W, E>,
+    ) -> Result<(), ProgramError>
+        ensures { self.new ≡ flushed_by self.old }
+    {
+        let mut unused = [0u8; 1024];
+        let answer = self.engine.finish(&mut unused);
+        self.tell(streams, answer.report.last)
     }
-    let mut line = [0u8; 143];
-    let mut summary = [0u8; 509];
-    let course = w.course;
-    let end = put_stretch(course, &mut line);
-    let size = put_summary(course.blocks, counts, &mut summary);
-    emit(stdout, &line, end) && emit(stdout, &summary, size)
+
+    // What a call's report adds, and the line of a stretch that it ends.
+    fn tell<R: Read, W: Write, E: Write>(
+        &mut self,
+        streams: &mut Streams<R, W, E>,
+        last: Last,
+    ) -> Result<(), ProgramError>
+        ensures engine { self.new.engine ≡ self.old.engine }
+        ensures course { self.new.course ≡ course_after self.old.course last }
+        ensures counts { self.new.counts ≡ counts_after last self.old.counts }
+    {
+        let mut line = [0u8; 143];
+        let noted = note(self.course, last, &mut self.counts, &mut line);
+        self.course = noted.course;
+        streams.write_all(&line[..noted.end])
+    }
+
+    // The engine is reset, which a line says.
+    pub fn reset<R: Read, W: Write, E: Write>(
+        &mut self,
+        streams: &mut Streams<R, W, E>,
+    ) -> Result<(), ProgramError>
+        ensures reset { record { engine = self.new.engine; course = self.new.course } ≡ reset_by self.old.engine self.old.course }
+        ensures counts { self.new.counts ≡ self.old.counts }
+    {
+        let mut text = [0u8; 149];
+        let end = put_reset(self.course, &mut text);
+        self.engine.reset();
+        self.course = course::closed(self.course);
+        streams.write_all(&text[..end])
+    }
+
+    // The last stretch and the summary.
+    pub fn finish<R: Read, W: Write, E: Write>(
+        &self,
+        streams: &mut Streams<R, W, E>,
+    ) -> Result<(), ProgramError> {
+        let mut line = [0u8; 143];
+        let mut summary = [0u8; 509];
+        let end = put_stretch(self.course, &mut line);
+        let size = put_summary(self.course.blocks, &self.counts, &mut summary);
+        streams.write_all(&line[..end])?;
+        streams.write_all(&summary[..size])
+    }
 }

@@ -6,91 +6,33 @@
 // is still told of.
 #![tactic(auto)]
 
-ghost use Rattle.std.specs.Prelude.{◌≡◌, ◌≤◌, length};
-
-use pipe::{complain, fill};
+use pipe::{ProgramError, Streams};
 use std::io::{Read, Write};
 use watch::Watch;
 
 fn main(rt: HostRuntime) {
-    let mut stdin = rt.stdin();
-    let mut stdout = rt.stdout();
-    let mut stderr = rt.stderr();
-    let mut shadow = [0.0f64; 2056];
-    let mut output = [0.0f64; 2056];
-    let mut spectra = [0.0f64; 2056];
-    let mut powers = [0.0f64; 1028];
-    let mut counts = [0u64; 11];
-    let start = watch::start(&mut shadow, &mut output, &mut spectra, &mut powers);
-    drive(
-        &mut stdin,
-        &mut stdout,
-        &mut stderr,
-        start,
-        &mut shadow,
-        &mut output,
-        &mut spectra,
-        &mut powers,
-        &mut counts,
-    );
+    let mut streams = Streams {
+        program: "why",
+        input: rt.stdin(),
+        output: rt.stdout(),
+        errors: rt.stderr(),
+    };
+    if let Err(error) = run(&mut streams) {
+        streams.say(error);
+    }
 }
 
-// A proved loop has to end, and nothing says that the input does. So it counts its turns down, from a number that no run uses up.
-fn drive<R: Read, W: Write, E: Write>(
-    stdin: &mut R,
-    stdout: &mut W,
-    stderr: &mut E,
-    start: Watch,
-    shadow: &mut [f64],
-    output: &mut [f64],
-    spectra: &mut [f64],
-    powers: &mut [f64],
-    counts: &mut [u64],
-)
-    requires carried_bound { start.state.carried ≤ 255 }
-    requires counts_len { length counts.old ≡ 11 }
-{
+fn run<R: Read, W: Write, E: Write>(streams: &mut Streams<R, W, E>) -> Result<(), ProgramError> {
+    let mut watch = Watch::new();
     let mut block = [0u8; 2048];
-    let mut watch = start;
-    let mut goes_on = true;
-    let mut turns = u64::MAX;
-    while turns > 0 && goes_on {
-        let held = fill(stdin, stderr, b"why", &mut block);
-        let next = watch::pairs(
-            stdout,
-            watch,
-            &block[..held],
-            shadow,
-            output,
-            spectra,
-            powers,
-            counts,
-        );
-        watch = next;
-        goes_on = next.is_written && held == 2048;
-        turns -= 1;
+    // Nothing says that the input ends, and a proved loop has to: no run comes to so many blocks.
+    for _ in 0..u64::MAX {
+        let held = streams.fill(&mut block);
+        watch.pairs(streams, &block[..held])?;
+        if held < 2048 {
+            break;
+        }
     }
-    if !finish(stdout, watch, shadow, output, spectra, powers, counts) {
-        complain(stderr, b"why", b": a write failed\n");
-    }
-}
-
-// The flush and the end, unless a write has failed before. Whether all was written.
-fn finish<W: Write>(
-    stdout: &mut W,
-    watch: Watch,
-    shadow: &mut [f64],
-    output: &mut [f64],
-    spectra: &mut [f64],
-    powers: &mut [f64],
-    counts: &mut [u64],
-) -> bool
-    requires carried_bound { watch.state.carried ≤ 255 }
-    requires counts_len { length counts.old ≡ 11 }
-{
-    if !watch.is_written {
-        return false;
-    }
-    let flushed = watch::flush(stdout, watch, shadow, output, spectra, powers, counts);
-    watch::finish(stdout, flushed, counts)
+    watch.flush(streams)?;
+    watch.finish(streams)
 }

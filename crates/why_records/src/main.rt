@@ -5,119 +5,61 @@
 // is told of.
 #![tactic(auto)]
 
-ghost use Rattle.std.specs.Prelude.{◌≡◌, ◌≤◌, length};
+ghost use Rattle.std.specs.Result.{is_ok};
 ghost use Rattle.why_records.specs.Called.{Called};
 
+use pipe::{ProgramError, Streams};
 use record_input::Next;
 use std::io::{Read, Write};
 use watch::Watch;
 
 fn main(rt: HostRuntime) {
-    let mut stdin = rt.stdin();
-    let mut stdout = rt.stdout();
-    let mut stderr = rt.stderr();
-    let mut shadow = [0.0f64; 2056];
-    let mut output = [0.0f64; 2056];
-    let mut spectra = [0.0f64; 2056];
-    let mut powers = [0.0f64; 1028];
-    let mut counts = [0u64; 11];
-    let start = watch::start(&mut shadow, &mut output, &mut spectra, &mut powers);
-    drive(
-        &mut stdin,
-        &mut stdout,
-        &mut stderr,
-        start,
-        &mut shadow,
-        &mut output,
-        &mut spectra,
-        &mut powers,
-        &mut counts,
-    );
+    let mut streams = Streams {
+        program: "why",
+        input: rt.stdin(),
+        output: rt.stdout(),
+        errors: rt.stderr(),
+    };
+    if let Err(error) = run(&mut streams) {
+        streams.say(error);
+    }
 }
 
-// A proved loop has to end, and nothing says that the input does. So it counts its turns down, from a number that no run uses up.
-fn drive<R: Read, W: Write, E: Write>(
-    stdin: &mut R,
-    stdout: &mut W,
-    stderr: &mut E,
-    start: Watch,
-    shadow: &mut [f64],
-    output: &mut [f64],
-    spectra: &mut [f64],
-    powers: &mut [f64],
-    counts: &mut [u64],
-)
-    requires carried_bound { start.state.carried ≤ 255 }
-    requires counts_len { length counts.old ≡ 11 }
-{
+fn run<R: Read, W: Write, E: Write>(streams: &mut Streams<R, W, E>) -> Result<(), ProgramError> {
+    let mut watch = Watch::new();
     let mut block = [0u8; 36870];
     let mut input = record_input::start();
-    let mut watch = start;
-    let mut turns = u64::MAX;
-    while turns > 0 && watch.is_written {
-        let next = record_input::next_record(stdin, input, &mut block);
+    // Nothing says that the input ends, and a proved loop has to: no run comes to so many records.
+    for _ in 0..u64::MAX {
+        let next = record_input::next_record(&mut streams.input, input, &mut block);
         let Next::Whole(record) = next else {
-            finish(stdout, stderr, watch, counts);
-            record_input::say(stderr, b"why", next);
-            return;
+            let finished = watch.finish(streams);
+            if let Err(error) = finished {
+                streams.say(error);
+            }
+            record_input::say(&mut streams.errors, b"why", next);
+            return Ok(());
         };
-        let from = record.from;
-        let end = record.end;
-        let payload = record::payload(&block[from..end]);
-        let after = called(
-            stdout,
-            watch,
-            record.kind,
-            payload,
-            shadow,
-            output,
-            spectra,
-            powers,
-            counts,
-        );
-        watch = after;
-        let rest = record.rest;
-        input = rest;
-        turns -= 1;
+        let payload = record::payload(&block[record.from..record.end]);
+        call(streams, &mut watch, record.kind, payload)?;
+        input = record.rest;
     }
-    finish(stdout, stderr, watch, counts);
+    watch.finish(streams)
 }
 
 // The call that a record of this kind tells of.
-fn called<W: Write>(
-    stdout: &mut W,
-    watch: Watch,
+fn call<R: Read, W: Write, E: Write>(
+    streams: &mut Streams<R, W, E>,
+    watch: &mut Watch,
     kind: u32,
     payload: &[u8],
-    shadow: &mut [f64],
-    output: &mut [f64],
-    spectra: &mut [f64],
-    powers: &mut [f64],
-    counts: &mut [u64],
-) -> Watch
-    requires carried_bound { watch.state.carried ≤ 255 }
-    requires counts_len { length counts.old ≡ 11 }
-    ensures carried_bound_2 { result.state.carried ≤ 255 }
-    ensures called { Called kind payload.now (record { engine = record { state = watch.state; shadow = shadow.old; output = output.old; spectra = spectra.old; powers = powers.old }; course = watch.course; counts = counts.old }) result.is_written (record { engine = record { state = result.state; shadow = shadow.new; output = output.new; spectra = spectra.new; powers = powers.new }; course = result.course; counts = counts.new }) }
+) -> Result<(), ProgramError>
+    ensures { Called kind payload.now watch.old (is_ok result) watch.new }
 {
-    if kind == 1 {
-        return watch::pairs(
-            stdout, watch, payload, shadow, output, spectra, powers, counts,
-        );
-    }
-    if kind == 3 {
-        return watch::flush(stdout, watch, shadow, output, spectra, powers, counts);
-    }
-    if kind == 4 {
-        return watch::reset(stdout, watch, shadow, output, spectra, powers);
-    }
-    watch
-}
-
-fn finish<W: Write, E: Write>(stdout: &mut W, stderr: &mut E, watch: Watch, counts: &[u64])
-    requires { length counts.now ≡ 11 }
-{
-    if !watch::finish(stdout, watch, counts) {
-        record_input::say_failed_write(stderr, b"why");
+    match kind {
+        1 => watch.pairs(streams, payload),
+        3 => watch.flush(streams),
+        4 => watch.reset(streams),
+        _ => Ok(()),
     }
 }
