@@ -80,7 +80,8 @@ pub fn hear(
     let energy = energy(block, 256);
     let peak = peak(far.far_energy_peak, energy);
     far.head = head;
-    far.far_active = far.far_active | sounding(block);
+    let sounded = sounding(block);
+    far.far_active = far.far_active | sounded;
     far.far_energy_peak = peak;
     driving(peak, energy)
 }

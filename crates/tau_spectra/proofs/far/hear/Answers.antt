@@ -13,4 +13,4 @@ returns-clause-heard c =
     let head = c.next_slot-head.result in
     let within : 514 * head + 514 ≤ length c.args.spectra.now = omega (arith, c.requires.spectra_len, c.next_slot-head.ensures.in_ring) in
     let put = part-with 514 head c.args.spectra.now spectrum nan within (spectrum-514 _) in
-    rw (c.far_power_of.ensures, c.keep.ensures, c.store.ensures, put, c.driving.ensures, c.sounding.ensures, c.peak-peak.ensures, c.energy-energy.ensures, c.next_slot-head.ensures.next, c.slide.ensures)
+    rw (c.far_power_of.ensures, c.keep.ensures, c.store.ensures, put, c.driving.ensures, c.sounding-sounded.ensures, c.peak-peak.ensures, c.energy-energy.ensures, c.next_slot-head.ensures.next, c.slide.ensures)
