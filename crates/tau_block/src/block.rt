@@ -17,7 +17,7 @@ use tau_paths::paths::Conditions;
 use tau_state::report::Told;
 use tau_state::state::{DTD_ESTABLISH_BLOCKS, Detector, Guard, MicRest, Paths, Powers};
 use tau_state::sums::energy;
-use tau_suppressor::suppressor::suppress;
+use tau_suppressor::lent::suppress;
 use tau_update::update::adapt_shadow;
 
 #[derive(Clone, Copy)]

@@ -1,12 +1,11 @@
 // Step 7, the residual suppressor.
 ghost use Rattle.std.specs.Prelude.{◌≡◌, ◌≤◌, ◌<◌, ◌+◌, ◌-◌, length};
-ghost use Rattle.trig.specs.Tables.{recombination};
-ghost use Rattle.tau_state.specs.Lent.{suppressor_of};
 ghost use Rattle.tau_suppressor.specs.Suppressor.{powered, target_of, gain_of, gained, span_of, sum_from, average_of, averaged, shaped, suppressed};
 
 use tau_spectra::bins::{get, power, put};
-use tau_spectra::lent::{later_half, spectrum};
+use tau_spectra::transform::Transform;
 use tau_spectra::windows::slide;
+use tau_state::state::Suppressor;
 use tau_state::sums::smooth;
 
 const SUPPRESSION_SMOOTHING: f64 = 0.7;
@@ -21,13 +20,11 @@ const GAIN_RELEASE_SMOOTHING: f64 = 0.2;
 
 const GAIN_BIN_SPAN: usize = 4;
 
-fn bin_powers(s: &[f64; 514], a: &mut [f64; 257])
+pub(crate) fn bin_powers(s: &[f64; 514], a: &mut [f64; 257])
     ensures { a.new ≡ powered s.now a.old }
 {
-    let mut k = 0usize;
-    while k < 257 {
+    for k in 0..257 {
         a[k] = smooth(SUPPRESSION_SMOOTHING, a[k], power(s, k));
-        k += 1;
     }
 }
 
@@ -54,14 +51,12 @@ fn gain(target: f64, g: f64) -> f64
     smooth(GAIN_SMOOTHING, g, target)
 }
 
-fn gains(protect: bool, echo: &[f64; 257], err: &[f64; 257], g: &mut [f64; 257])
+pub(crate) fn gains(protect: bool, echo: &[f64; 257], err: &[f64; 257], g: &mut [f64; 257])
     ensures { g.new ≡ gained protect echo.now err.now g.old }
 {
-    let mut k = 0usize;
-    while k < 257 {
+    for k in 0..257 {
         let t = target(protect, echo[k], err[k]);
         g[k] = gain(t, g[k]);
-        k += 1;
     }
 }
 
@@ -90,11 +85,8 @@ fn sum_from(g: &[f64; 257], lo: usize, n: u32) -> f64
     ensures { result ≡ sum_from g.now lo n }
 {
     let mut t = 0.0f64;
-    let mut k = 0u32;
-    while k < n {
-        let j = lo + k as usize;
-        t = t + g[j];
-        k += 1;
+    for k in 0..n {
+        t = t + g[lo + k as usize];
     }
     t
 }
@@ -109,43 +101,41 @@ fn average(g: &[f64; 257], k: usize) -> f64
 }
 
 // Each bin times the average of the gains about it.
-fn shape(g: &[f64; 257], s: &mut [f64])
+pub(crate) fn shape(g: &[f64; 257], s: &mut [f64])
     requires { length s.old ≡ 514 }
     ensures { s.new ≡ shaped (averaged g.now) s.old }
 {
-    let mut k = 0usize;
-    while k < 257 {
+    for k in 0..257 {
         let z = get(s, k).scale(average(g, k));
         put(s, k, z);
-        k += 1;
     }
 }
 
 // How many samples of its inverse went over, 0 where it does not run.
 pub fn suppress(
-    table: &[f64; 514],
-    scratch: &mut [f64; 1024],
+    transform: &mut Transform,
     on: bool,
     protect: bool,
     estimate: &[f64; 514],
-    echo: &mut [f64; 257],
-    err: &mut [f64; 257],
-    gain: &mut [f64; 257],
-    window: &mut [f32; 512],
+    suppressor: &mut Suppressor,
     block: &mut [f32; 256],
 ) -> u32
-    requires { table.now ≡ recombination }
-    ensures { record { suppressor = suppressor_of echo.new err.new gain.new window.new; block = block.new; overs = result } ≡ suppressed on protect block.old estimate.now (suppressor_of echo.old err.old gain.old window.old) }
+    ensures { record { suppressor = suppressor.new; block = block.new; overs = result } ≡ suppressed on protect block.old estimate.now suppressor.old }
 {
-    slide(window, block);
+    slide(&mut suppressor.error_window, block);
     if on {
         let mut bins = [0.0f64; 514];
-        spectrum(table, scratch, window, &mut bins);
-        bin_powers(estimate, echo);
-        bin_powers(&bins, err);
-        gains(protect, echo, err, gain);
-        shape(gain, &mut bins);
-        return later_half(table, scratch, &bins, block);
+        transform.spectrum(&suppressor.error_window, &mut bins);
+        bin_powers(estimate, &mut suppressor.echo_power);
+        bin_powers(&bins, &mut suppressor.error_power);
+        gains(
+            protect,
+            &suppressor.echo_power,
+            &suppressor.error_power,
+            &mut suppressor.gain,
+        );
+        shape(&suppressor.gain, &mut bins);
+        return transform.later_half(&bins, block);
     }
     0
 }

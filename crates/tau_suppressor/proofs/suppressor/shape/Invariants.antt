@@ -1,6 +1,5 @@
 use Rattle.tau_suppressor.specs.Suppressor.{averaged}
 use mathlib.Core.Path.{◌≡◌}
-use Prim.Native.Nat.{◌-◌, ◌≤◌}
 use lib.Ieee.{nan}
 use lib.ListN.{get_or, length}
 use Rattle.complex.specs.Complexes.{new_c, scale_c}
@@ -8,7 +7,4 @@ use Rattle.laws.specs.Loops.{over2}
 use Rattle.tau_suppressor.proofs.suppressor.shape.Given as goal
 
 abbrev pub invariant-loop-k : goal.invariant-loop-k
-invariant-loop-k l = (l.k ≤ 257) × (length l.s ≡ 514) × (l.s ≡ over2 nan l.k (λ j re im. (scale_c (new_c re im) (get_or (averaged l.g) j nan)).re) (λ j re im. (scale_c (new_c re im) (get_or (averaged l.g) j nan)).im) l.initial.s)
-
-abbrev pub decreases-loop-k : goal.decreases-loop-k
-decreases-loop-k l = 257 - l.k
+invariant-loop-k l = (length l.s ≡ 514) × (l.s ≡ over2 nan l.k (λ j re im. (scale_c (new_c re im) (get_or (averaged l.g) j nan)).re) (λ j re im. (scale_c (new_c re im) (get_or (averaged l.g) j nan)).im) l.initial.s)

@@ -7,30 +7,6 @@ pub loop-k-init : goal.loop-k-init
 unfolding sum_from
 loop-k-init c = search (rules, loops)
 
-pub overflow_cast-j : goal.overflow_cast-j
-unfolding sum_from
-overflow_cast-j c = search (rules, loops)
-
-pub overflow_add-j : goal.overflow_add-j
-unfolding sum_from
-overflow_add-j c = search (rules, loops)
-
-pub offset_bounds-g-j : goal.offset_bounds-g-j
-unfolding sum_from
-offset_bounds-g-j c = search (rules, loops)
-
-pub bounds-g-j : goal.bounds-g-j
-unfolding sum_from
-bounds-g-j c = search (rules, loops)
-
-pub overflow_add-k : goal.overflow_add-k
-unfolding sum_from
-overflow_add-k c = search (rules, loops)
-
-pub loop-k-smaller : goal.loop-k-smaller
-unfolding sum_from
-loop-k-smaller c = search (rules, loops)
-
 pub loop-k-preserved : goal.loop-k-preserved
 unfolding sum_from
 loop-k-preserved c = search (rules, loops)

@@ -4,7 +4,7 @@ use Rattle.tau_suppressor.proofs.suppressor.suppress.Goals as goal
 
 pub returns-then-on : goal.returns-then-on
 unfolding suppressed
-returns-then-on c = pick_yes _ _ _ c.if-on.true (rw (c.later_half.ensures.samples_after, c.later_half.ensures.value, c.shape.ensures, c.gains.ensures, c.bin_powers-then-on.ensures, c.bin_powers.ensures, c.spectrum.ensures, c.slide.ensures))
+returns-then-on c = pick_yes _ _ _ c.if-on.true (rw (c.later_half.ensures.samples_after, c.later_half.ensures.overs, c.shape.ensures, c.gains.ensures, c.bin_powers-then-on.ensures, c.bin_powers.ensures, c.spectrum.ensures, c.slide.ensures))
 
 pub returns : goal.returns
 unfolding suppressed
