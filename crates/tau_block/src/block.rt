@@ -4,13 +4,13 @@ ghost use Rattle.std.specs.Prelude.{◌≡◌, [], ◌≤◌, ◌<◌, ◌*◌, 
 ghost use Rattle.trig.specs.Tables.{recombination};
 ghost use Rattle.tau_state.specs.Lent.{suppressor_of, mic_of};
 ghost use Rattle.tau_spectra.specs.Ring.{ring_of};
-ghost use Rattle.tau_filter.specs.Lent.{estimated_of};
+ghost use Rattle.tau_filter.specs.Lent.{estimated_lent};
 ghost use Rattle.tau_block.specs.Block.{listen};
 ghost use Rattle.tau_block.specs.Groups.{filtered, compares, delivered};
 ghost use Rattle.tau_block.specs.Lent.{filtered_of, judgement_of, delivered_of, playing_of, mic_block, microphone_of, listened_of, no_suppressor, bare};
 
 use tau_detector::lent::double_talk_block;
-use tau_filter::filter::{Checked, output_estimate, shadow_estimate};
+use tau_filter::lent::{Checked, output_estimate, shadow_estimate};
 use tau_guard::lent::{guard, host_powers};
 use tau_paths::lent::{Compared, compare};
 use tau_paths::paths::Conditions;
@@ -180,7 +180,7 @@ fn deliver(
 ) -> DeliveredRest
     requires table_value { table.now ≡ recombination }
     requires valid_bound { valid ≤ 256 }
-    ensures { delivered_of result (suppressor_of echo_power.new error_power.new gain.new window.new) block.new output.new ≡ delivered on protect near.now near_energy valid (estimated_of checked (suppressor_of echo_power.old error_power.old gain.old window.old) bins.now block.old [] []) (bare mic) paths resets output.old }
+    ensures { delivered_of result (suppressor_of echo_power.new error_power.new gain.new window.new) block.new output.new ≡ delivered on protect near.now near_energy valid (estimated_lent checked (suppressor_of echo_power.old error_power.old gain.old window.old) bins.now block.old [] []) (bare mic) paths resets output.old }
 {
     let overs = suppress(
         table,

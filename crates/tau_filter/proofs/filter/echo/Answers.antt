@@ -1,10 +1,15 @@
-use Rattle.tau_filter.specs.Filter.{echo_to}
-use mathlib.Core.Path.{refl}
+use Rattle.std.proofs.Common.{rules, refl, ◌≡◌, ℕ, List}
+use Rattle.std.specs.Float.{Float}
 use Rattle.laws.specs.Loops.{loops, iter-next}
-use Rattle.laws.specs.Parts.{part-is}
-use Rattle.tau_filter.proofs.Adding.{echo-turn}
-use borrow.Author.Rules.{rules}
+use Rattle.laws.specs.Parts.{part, part-is}
+use Rattle.tau_spectra.specs.Ring.{Ring, met_by}
+use Rattle.tau_filter.specs.Filter.{added, echo_to}
 use Rattle.tau_filter.proofs.filter.echo.Goals as goal
+
+-- one partition, from what the calls give
+turn : (ring : Ring) (weights acc : List Float) (p : ℕ) {w x after : List Float}
+    → after ≡ added w x 257 acc → w ≡ part 514 p weights → x ≡ met_by ring p → after ≡ added (part 514 p weights) (met_by ring p) 257 acc
+turn ring weights acc p e w x = rw (e, w, x)
 
 pub loop-p-init : goal.loop-p-init
 unfolding echo_to
@@ -12,7 +17,7 @@ loop-p-init c = search (rules, loops)
 
 pub loop-p-preserved : goal.loop-p-preserved
 unfolding echo_to
-loop-p-preserved c = (search rules, iter-next _ _ _ c.loop-p.invariant.1 (echo-turn _ _ _ _ _ _ c.slot_of-slot.ensures.0 (part-is 514 _ _ _ refl) (part-is 514 _ _ _ refl) c.multiply_add.ensures))
+loop-p-preserved c = iter-next _ _ _ c.loop-p.invariant (turn _ _ _ _ c.multiply_add.ensures (part-is 514 _ _ _ refl) c.met_by.ensures.spectrum)
 
 pub returns : goal.returns
 unfolding echo_to

@@ -1,11 +1,11 @@
-use Rattle.tau_filter.specs.Filter.{shadowed}
 use Rattle.laws.specs.Choice.{pick_yes, pick_no}
+use Rattle.tau_filter.specs.Filter.{shadowed}
 use Rattle.tau_filter.proofs.filter.shadow_estimate.Goals as goal
 
-pub returns-then-bad : goal.returns-then-bad
+pub returns-then-diverged : goal.returns-then-diverged
 unfolding shadowed
-returns-then-bad c = pick_yes _ _ _ (cc) (rw (← c.diverge_shadow-c.ensures, c.later_half-overs.ensures.value, c.echo.ensures))
+returns-then-diverged c = pick_yes _ _ _ (rw (← c.echo.ensures, ← c.later_half-overs.ensures.samples_after, ← c.errors-diverged.ensures.bad) c.if-diverged.true) (rw (← c.diverge_shadow.ensures, c.if-diverged.true, c.later_half-overs.ensures.overs, c.echo.ensures))
 
-pub returns : goal.returns
+pub returns-else-diverged : goal.returns-else-diverged
 unfolding shadowed
-returns c = pick_no _ _ _ (cc) (rw (c.errors-bad.ensures.0, c.later_half-overs.ensures.samples_after, c.later_half-overs.ensures.value, c.echo.ensures))
+returns-else-diverged c = pick_no _ _ _ (rw (← c.echo.ensures, ← c.later_half-overs.ensures.samples_after, ← c.errors-diverged.ensures.bad) c.if-diverged.false) (rw (c.if-diverged.false, c.errors-diverged.ensures.errors, c.later_half-overs.ensures.samples_after, c.later_half-overs.ensures.overs, c.echo.ensures))
