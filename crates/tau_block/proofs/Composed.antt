@@ -13,8 +13,8 @@ use Rattle.tau_spectra.specs.Ring.{ring_of}
 use Rattle.tau_update.specs.Lent.{updated_of}
 use Rattle.tau_update.specs.Update.{Updated, updated}
 use Rattle.tau_update.specs.declared.update.UpdatedRest.{UpdatedRest}
-use Rattle.tau_filter.specs.Lent.{estimated_of}
-use Rattle.tau_filter.specs.declared.filter.Checked.{Checked}
+use Rattle.tau_filter.specs.Lent.{estimated_lent}
+use Rattle.tau_filter.specs.declared.lent.Checked.{Checked}
 use Rattle.tau_block.specs.Block.{Block, Playing, Microphone, listen}
 use Rattle.tau_block.specs.Groups.{Filtered, Judgement, Delivered, filtered, compares, delivered, gathered, updates, suppresses, grouped}
 use Rattle.tau_block.specs.Lent.{filtered_of, judgement_of, delivered_of, playing_of, no_suppressor, bare}
@@ -51,7 +51,7 @@ pub listen-lent : (flagged : Bool) (parts head : ℕ) (sounded active : Bool) (x
     j.detector.step_scale means j.compared.paths checked.divergence_resets sh2
     → delivered_of g u2 block' ou3
     ≡ delivered (flagged && sounded && not checked.diverged) j.detector.protect_output near energy valid
-    (estimated_of checked u1 bins block [] []) (bare m) u.paths u.divergence_resets ou2
+    (estimated_lent checked u1 bins block [] []) (bare m) u.paths u.divergence_resets ou2
     → gathered (filtered_of first checked estimate es u1 bins block sh1 ou1) (judgement_of j sh2 ou2) (updated_of u means' sh3) (delivered_of g u2 block' ou3)
     ≡ listen flagged (playing_of parts head sounded active xs far_power) (record { near = near; valid = valid; adapt = adapt })
     (record { mic = mic_of m means suppressor; shadow = sh; output = ou })

@@ -9,7 +9,7 @@ use Rattle.tau_state.specs.declared.state.Paths.{Paths}
 use Rattle.tau_state.specs.declared.state.Suppressor.{Suppressor}
 use Rattle.tau_spectra.specs.Ring.{Ring}
 use Rattle.tau_filter.specs.Filter.{Estimated}
-use Rattle.tau_filter.specs.declared.filter.Checked.{Checked}
+use Rattle.tau_filter.specs.declared.lent.Checked.{Checked}
 use Rattle.tau_filter.proofs.Few.{shadowed-few, estimated-few}
 use Rattle.tau_update.specs.Lent.{updated_of}
 use Rattle.tau_update.specs.Update.{Updated, updated}

@@ -18,7 +18,7 @@ use tau_state::report::Told;
 use tau_state::state::{DTD_ESTABLISH_BLOCKS, Detector, Guard, MicRest, Paths, Powers};
 use tau_state::sums::energy;
 use tau_suppressor::lent::suppress;
-use tau_update::update::adapt_shadow;
+use tau_update::lent::adapt_shadow;
 
 #[derive(Clone, Copy)]
 pub struct Judged {

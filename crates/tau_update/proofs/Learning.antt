@@ -12,7 +12,7 @@ use Rattle.laws.specs.Parts.{part, with_part}
 use Rattle.fft.specs.Calls.{overs_of}
 use Rattle.fft.proofs.Sizes.{spectrum-514, overs-512}
 use Rattle.tau_state.specs.declared.state.Paths.{Paths}
-use Rattle.tau_spectra.specs.Ring.{Ring, slot_of, ring_of, met_by}
+use Rattle.tau_spectra.specs.Ring.{Ring, met_by}
 use Rattle.tau_update.specs.Update.{Learnt, gradient_of, constrained, stepped, finite_to, learnt_at, learnt_to, Updated, updated}
 
 -- a constrained gradient is a spectrum
@@ -21,10 +21,9 @@ unfolding constrained
 length-constrained g = spectrum-514 _
 
 -- one partition of the update
-pub learnt-turn : (parts head : ℕ) (xs e rates w : List Float) (good : Bool) (overs p : ℕ)
-    {slot more : ℕ} {x g h y v w' : List Float} {fine : Bool}
-    → slot ≡ slot_of head parts p
-    → x ≡ part 514 slot xs
+pub learnt-turn : (ring : Ring) (e rates w : List Float) (good : Bool) (overs p : ℕ)
+    {more : ℕ} {x g h y v w' : List Float} {fine : Bool}
+    → x ≡ met_by ring p
     → g ≡ gradient_of x e rates
     → h ≡ constrained g
     → y ≡ part 514 p w
@@ -32,9 +31,9 @@ pub learnt-turn : (parts head : ℕ) (xs e rates w : List Float) (good : Bool) (
     → fine ≡ finite_to v 514
     → w' ≡ with_part 514 p w v
     → more ≡ overs_of g
-    → ◌≡◌ {A = Learnt} (record { weights = w'; finite = good && fine; overs = overs + more }) (learnt_at (ring_of parts head xs) e rates p (record { weights = w; finite = good; overs = overs }))
+    → ◌≡◌ {A = Learnt} (record { weights = w'; finite = good && fine; overs = overs + more }) (learnt_at ring e rates p (record { weights = w; finite = good; overs = overs }))
 unfolding learnt_at
-learnt-turn parts head xs e rates w good overs p e1 e2 e3 e4 e5 e6 e7 e8 e9 = rw (e9, e8, e7, e6, e5, e4, e3, e2, e1)
+learnt-turn ring e rates w good overs p e1 e2 e3 e4 e5 e6 e7 e8 = rw (e8, e7, e6, e5, e4, e3, e2, e1)
 
 -- no more overs than samples
 pub learnt-few : (ring : Ring) (error rates shadow : List Float) (n : ℕ) → (learnt_to ring error rates shadow n).overs ≤ 512 * n

@@ -1,17 +1,14 @@
 // Step 6: the normalized update of the shadow, with the gradient constraint.
-ghost use Rattle.std.specs.Prelude.{◌≡◌, ◌≤◌, ◌<◌, ◌*◌, length, drop, replicate};
-ghost use Rattle.trig.specs.Tables.{recombination};
+ghost use Rattle.std.specs.Prelude.{◌≡◌, ◌*◌, length};
 ghost use Rattle.fft.specs.Calls.{spectrum_of, overs_of};
-ghost use Rattle.tau_state.specs.Constants.{zero32};
-ghost use Rattle.tau_spectra.specs.Ring.{ring_of};
-ghost use Rattle.tau_update.specs.Lent.{updated_of, verdict_on};
+ghost use Rattle.tau_spectra.specs.FarRing.{ring_in};
 ghost use Rattle.tau_update.specs.Update.{factor_of, rate_of, rates_of, means_of, gradient_of, constrained, stepped, finite_to, framed, learnt_to, updated};
 
 use complex::Complex;
-use tau_clears::lent::diverge_shadow;
+use tau_clears::clears::diverge_shadow;
 use tau_spectra::bins::{get, put};
-use tau_spectra::ring::slot_of;
-use tau_spectra::lent::{first_half, spectrum};
+use tau_spectra::ring::FarRing;
+use tau_spectra::transform::Transform;
 use tau_spectra::windows::slide;
 use tau_state::state::Paths;
 use tau_state::sums::smooth;
@@ -45,20 +42,16 @@ fn rates(scale: f64, means: &[f64; 257], powers: &[f64; 257], t: &mut [f64])
     requires { length t.old ≡ 257 }
     ensures { t.new ≡ rates_of scale means.now powers.now }
 {
-    let mut k = 0usize;
-    while k < 257 {
+    for k in 0..257 {
         t[k] = rate(scale, means[k], powers[k]);
-        k += 1;
     }
 }
 
 fn new_means(powers: &[f64; 257], t: &mut [f64; 257])
     ensures { t.new ≡ means_of powers.now t.old }
 {
-    let mut k = 0usize;
-    while k < 257 {
+    for k in 0..257 {
         t[k] = smooth(STEP_POWER_SMOOTHING, t[k], powers[k]);
-        k += 1;
     }
 }
 
@@ -67,31 +60,22 @@ fn gradient(x: &[f64], e: &[f64; 514], rates: &[f64; 257], g: &mut [f64])
     requires { (length x.now ≡ 514) × (length g.old ≡ 514) }
     ensures { g.new ≡ gradient_of x.now e.now rates.now }
 {
-    let mut k = 0usize;
-    while k < 257 {
+    for k in 0..257 {
         let u = get(x, k);
         let v = get(e, k);
         let z = Complex::new(u.re * v.re + u.im * v.im, u.re * v.im - u.im * v.re);
         put(g, k, z.scale(rates[k]));
-        k += 1;
     }
 }
 
 // The lags beyond one block are the wrap-around and no taps: they are zeroed. How many of all lags went over.
-fn constrain(
-    table: &[f64; 514],
-    scratch: &mut [f64; 1024],
-    g: &mut [f64; 514],
-    lags: &mut [f32],
-) -> u32
-    requires table_value { table.now ≡ recombination }
-    requires lags_len { (length lags.old ≡ 512) × (drop 256 lags.old ≡ replicate 256 zero32) }
+fn constrain(transform: &mut Transform, g: &mut [f64; 514]) -> u32
     ensures g_after { g.new ≡ constrained g.old }
-    ensures lags_after { drop 256 lags.new ≡ replicate 256 zero32 }
-    ensures value { result ≡ overs_of g.old }
+    ensures overs { result ≡ overs_of g.old }
 {
-    let overs = first_half(table, scratch, g, &mut lags[..256]);
-    spectrum(table, scratch, lags, g);
+    let mut lags = [0.0f32; 512];
+    let overs = transform.first_half(g, &mut lags[..256]);
+    transform.spectrum(&lags, g);
     overs
 }
 
@@ -99,12 +83,10 @@ fn constrain(
 fn take_step(w: &mut [f64], g: &[f64; 514]) -> bool
     requires { length w.old ≡ 514 }
     ensures w_after { w.new ≡ stepped g.now w.old }
-    ensures value { result ≡ finite_to w.new 514 }
+    ensures finite { result ≡ finite_to w.new 514 }
 {
-    let mut k = 0usize;
-    while k < 514 {
+    for k in 0..514 {
         w[k] = w[k] + g[k];
-        k += 1;
     }
     all_finite(w)
 }
@@ -114,10 +96,8 @@ fn all_finite(w: &[f64]) -> bool
     ensures { result ≡ finite_to w.now 514 }
 {
     let mut good = true;
-    let mut k = 0usize;
-    while k < 514 {
+    for k in 0..514 {
         good = good & numbers::is_finite(w[k]);
-        k += 1;
     }
     good
 }
@@ -131,118 +111,67 @@ struct Learned {
 
 // All weights are written before the verdict on them.
 fn learn(
-    table: &[f64; 514],
-    scratch: &mut [f64; 1024],
-    parts: usize,
-    head: usize,
-    xs: &[f64],
+    transform: &mut Transform,
+    ring: &FarRing,
     e: &[f64; 514],
     rates: &[f64; 257],
     shadow: &mut [f64],
 ) -> Learned
-    requires table_value { table.now ≡ recombination }
-    requires shadow_len { (length shadow.old ≡ 514 * parts) × (length xs.now ≡ 514 * parts) × (head < parts) × (parts ≤ 32) }
-    ensures { record { weights = shadow.new; finite = result.finite; overs = result.overs } ≡ learnt_to (ring_of parts head xs.now) e.now rates.now shadow.old parts }
+    requires { length shadow.old ≡ 514 * ring.now.partitions }
+    ensures { record { weights = shadow.new; finite = result.finite; overs = result.overs } ≡ learnt_to (ring_in ring.now) e.now rates.now shadow.old ring.now.partitions }
 {
     let mut g = [0.0f64; 514];
-    let mut lags = [0.0f32; 512];
     let mut finite = true;
     let mut overs = 0u32;
-    let mut p = 0usize;
-    while p < parts {
-        let slot = slot_of(head, parts, p);
-        let b = 514 * slot;
-        let be = b + 514;
-        gradient(&xs[b..be], e, rates, &mut g);
-        overs += constrain(table, scratch, &mut g, &mut lags);
-        let a = 514 * p;
-        let ae = a + 514;
-        let fine = take_step(&mut shadow[a..ae], &g);
+    for p in 0..ring.partitions {
+        gradient(ring.met_by(p), e, rates, &mut g);
+        overs += constrain(transform, &mut g);
+        let start = 514 * p;
+        let end = start + 514;
+        let fine = take_step(&mut shadow[start..end], &g);
         finite = finite & fine;
-        p += 1;
     }
     Learned { finite, overs }
 }
 
-#[derive(Clone, Copy)]
-pub struct UpdatedRest {
-    pub paths: Paths,
-    pub divergence_resets: u64,
-    pub overs: u32,
-}
-
 // The error behind 256 zeros.
-fn error_spectrum(
-    table: &[f64; 514],
-    scratch: &mut [f64; 1024],
-    error: &[f32; 256],
-    bins: &mut [f64; 514],
-)
-    requires { table.now ≡ recombination }
+fn error_spectrum(transform: &mut Transform, error: &[f32; 256], bins: &mut [f64; 514])
     ensures { bins.new ≡ spectrum_of (framed error.now) }
 {
     let mut framed = [0.0f32; 512];
     slide(&mut framed, error);
-    spectrum(table, scratch, &framed, bins);
+    transform.spectrum(&framed, bins);
 }
 
+// How many lags of all partitions went over, 0 where the shadow is not updated.
 pub fn adapt_shadow(
-    table: &[f64; 514],
-    scratch: &mut [f64; 1024],
+    transform: &mut Transform,
     on: bool,
-    parts: usize,
-    head: usize,
-    xs: &[f64],
+    ring: &FarRing,
     far_power: &[f64; 257],
     error: &[f32; 256],
     scale: f64,
     means: &mut [f64; 257],
-    p: Paths,
-    resets: u64,
+    paths: &mut Paths,
+    resets: &mut u64,
     shadow: &mut [f64],
-) -> UpdatedRest
-    requires table_value { table.now ≡ recombination }
-    requires shadow_len { (length shadow.old ≡ 514 * parts) × (length xs.now ≡ 514 * parts) × (head < parts) × (parts ≤ 32) }
-    ensures { updated_of result means.new shadow.new ≡ updated on (ring_of parts head xs.now) far_power.now error.now scale means.old p resets shadow.old }
+) -> u32
+    requires { length shadow.old ≡ 514 * ring.now.partitions }
+    ensures { record { means = means.new; paths = paths.new; resets = resets.new; shadow = shadow.new; overs = result } ≡ updated on (ring_in ring.now) far_power.now error.now scale means.old paths.old resets.old shadow.old }
 {
-    if on {
-        let mut e = [0.0f64; 514];
-        let mut steps = [0.0f64; 257];
-        error_spectrum(table, scratch, error, &mut e);
-        // by the means as they were, and then the means with this block's powers
-        rates(scale, means, far_power, &mut steps);
-        new_means(far_power, means);
-        let learned = learn(table, scratch, parts, head, xs, &e, &steps, shadow);
-        return judge(learned, means, p, resets, shadow);
+    if !on {
+        return 0;
     }
-    UpdatedRest {
-        paths: p,
-        divergence_resets: resets,
-        overs: 0,
-    }
-}
-
-fn judge(
-    learned: Learned,
-    means: &[f64; 257],
-    p: Paths,
-    resets: u64,
-    shadow: &mut [f64],
-) -> UpdatedRest
-    ensures { updated_of result means.now shadow.new ≡ verdict_on learned.finite learned.overs means.now p resets shadow.old }
-{
+    let mut e = [0.0f64; 514];
+    let mut steps = [0.0f64; 257];
+    error_spectrum(transform, error, &mut e);
+    // by the means as they were, and then the means with this block's powers
+    rates(scale, means, far_power, &mut steps);
+    new_means(far_power, means);
+    let learned = learn(transform, ring, &e, &steps, shadow);
     if learned.finite {
-        return UpdatedRest {
-            paths: p,
-            divergence_resets: resets,
-            overs: learned.overs,
-        };
+        return learned.overs;
     }
-    let c = diverge_shadow(p, resets, shadow);
-    let q = c.paths;
-    UpdatedRest {
-        paths: q,
-        divergence_resets: c.divergence_resets,
-        overs: learned.overs,
-    }
+    diverge_shadow(paths, resets, shadow);
+    learned.overs
 }

@@ -1,5 +1,4 @@
 use mathlib.Core.Path.{◌≡◌}
-use Prim.Native.Nat.{◌-◌, ◌≤◌}
 use lib.Ieee.{nan}
 use lib.ListN.{length, get_or}
 use lib.Ieee.{binary64, add}
@@ -7,7 +6,4 @@ use Rattle.laws.specs.Loops.{over}
 use Rattle.tau_update.proofs.update.take_step.Given as goal
 
 abbrev pub invariant-loop-k : goal.invariant-loop-k
-invariant-loop-k l = (l.k ≤ 514) × (length l.w ≡ 514) × (l.w ≡ over l.k (λ j a. add binary64 a (get_or l.g j nan)) l.initial.w)
-
-abbrev pub decreases-loop-k : goal.decreases-loop-k
-decreases-loop-k l = 514 - l.k
+invariant-loop-k l = (length l.w ≡ 514) × (l.w ≡ over l.k (λ j a. add binary64 a (get_or l.g j nan)) l.initial.w)
