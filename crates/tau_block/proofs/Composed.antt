@@ -12,7 +12,7 @@ use Rattle.tau_state.specs.declared.state.Suppressor.{Suppressor}
 use Rattle.tau_spectra.specs.Ring.{ring_of}
 use Rattle.tau_update.specs.Lent.{updated_of}
 use Rattle.tau_update.specs.Update.{Updated, updated}
-use Rattle.tau_update.specs.declared.update.UpdatedRest.{UpdatedRest}
+use Rattle.tau_update.specs.declared.lent.UpdatedRest.{UpdatedRest}
 use Rattle.tau_filter.specs.Lent.{estimated_lent}
 use Rattle.tau_filter.specs.declared.lent.Checked.{Checked}
 use Rattle.tau_block.specs.Block.{Block, Playing, Microphone, listen}

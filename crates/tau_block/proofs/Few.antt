@@ -13,7 +13,7 @@ use Rattle.tau_filter.specs.declared.lent.Checked.{Checked}
 use Rattle.tau_filter.proofs.Few.{shadowed-few, estimated-few}
 use Rattle.tau_update.specs.Lent.{updated_of}
 use Rattle.tau_update.specs.Update.{Updated, updated}
-use Rattle.tau_update.specs.declared.update.UpdatedRest.{UpdatedRest}
+use Rattle.tau_update.specs.declared.lent.UpdatedRest.{UpdatedRest}
 use Rattle.tau_update.proofs.Learning.{updated-few}
 use Rattle.tau_suppressor.proofs.Few.{suppressed-few}
 use Rattle.tau_block.specs.Groups.{Filtered, Delivered, filtered, delivered}
