@@ -2,6 +2,7 @@
 -- each way finds the top of the ranks of the sizes (Greatest). Assumes nothing.
 --     peak-ring      newest first around the ring, as the definition has it, is straight over the list
 --     peak-lanes     the way that the code goes is straight over the list
+--     onward-part    a running maximum over the end of a list
 use mathlib.Core.Path.{◌≡◌, refl, sym, ap, ◌∙◌, subst}
 use mathlib.Core.Logic.{inl, inr}
 use mathlib.Core.Bool.{true, false}
@@ -13,10 +14,12 @@ use lib.Dec.{T, leb}
 use lib.IntN.{ℤ}
 use lib.Ieee.{Float, nan, inf, fin, binary32, up, down, fits, neg, lt}
 use lib.Ieee.Fits.{nan-fits, up_pos, down_pos}
-use lib.ListN.{length, get_or, get_or-replicate, get_or-eq_default}
+use lib.ListN.{length, drop, get_or, get_or-replicate, get_or-eq_default}
 use borrow.Author.Tests.{lt-ltb, le-ltb, le-leb, lt-leb}
 use Rattle.laws.specs.Choice.{pick, pick_yes, pick_no, lt-or-ge}
 use Rattle.laws.specs.Loops.{iter, length_over, over-at}
+use Rattle.laws.specs.Readings.{iter-cong}
+use Rattle.std.proofs.lemmas.List.{length-drop, get_or-drop}
 use Rattle.numbers.specs.Finite.{plus}
 use Rattle.numbers.specs.Order.{abs_of, max_of}
 use Rattle.rho_taps.specs.Peak.{peak_up, greater_of, with_size, onward_of, lanes_of}
@@ -121,6 +124,14 @@ unfolding onward_of
 found-onward xs start h q =
     found-iter (λ k a. with_size a (get_or xs (start + k) nan)) (λ k. rank_at xs (start + k)) (λ k n a r. found-step (get_or xs (start + k) nan) (h (start + k)) r) q
     (length xs - start)
+
+pub onward-part : (xs : List Float) (at : ℕ) (p : Float) → onward_of (drop at xs) 0 p ≡ onward_of xs at p
+unfolding onward_of
+onward-part xs at p =
+    let e : length (drop at xs) - 0 ≡ length xs - at = omega (arith, length-drop at xs) in
+    ap (iter (λ k a. with_size a (get_or (drop at xs) (0 + k) nan)) p) e
+    ∙ iter-cong (λ k a. with_size a (get_or (drop at xs) (0 + k) nan)) (λ k a. with_size a (get_or xs (at + k) nan)) p (length xs - at)
+    (λ k a l. ap (λ (x : Float). with_size a x) (ap (λ (n : ℕ). get_or (drop at xs) n nan) (zero-add k) ∙ get_or-drop at xs k nan))
 
 length-lanes : (xs : List Float) (n : ℕ) → length (lanes_of xs n) ≡ 16
 unfolding lanes_of iter

@@ -1,7 +1,5 @@
 pub mod Runs
-pub mod Groups
-pub mod Sums
-pub mod Cleared
-pub mod NoNan
+pub mod Parts
 pub mod Greatest
 pub mod Lanes
+pub mod NoNan

@@ -1,22 +1,24 @@
 -- A pass around the ring, newest first, is two straight runs. Assumes nothing.
 --     slot-newer, slot-older     where lag k stands: in the first run at pos - k, in the second at the top less what it has passed
---     two_runs, two-overs        a loop over all lags, and a list changed at all lags, by the two runs
+--     lag-newer, lag-older       the sample of a lag, as one of the run that it is in
+--     two_runs                   a loop over all lags, by the two runs
 --     estimate-runs, energy-runs, updated-runs, sound-runs     the sums, the updated weights, and whether all of them are finite
-use mathlib.Core.Path.{◌≡◌, refl, sym, ap, ◌∙◌}
-use mathlib.Core.Bool.{Bool, true, false, ◌&&◌}
-use mathlib.Core.List.{List}
-use Prim.Native.Nat.{ℕ, zero, suc, ◌+◌, ◌-◌, ◌≤◌, ◌<◌}
-use native.Mathlib.Nat.{zero-add}
-use native.Mathlib.Omega.{arith}
-use borrow.Author.Tests.{le-leb, lt-leb}
-use lib.Ieee.{Float, nan, binary64, add, mul}
-use lib.ListN.{length, get_or}
+use Rattle.std.proofs.Common.{◌≡◌, ℕ, ◌+◌, ◌-◌, ◌≤◌, ◌<◌, List, [], ◌∷◌, ◌++◌, Float, Bool, true, false, ◌&&◌, length, get_or, take, drop, refl, sym, ap, ◌∙◌, le-leb, arith}
+use Rattle.std.proofs.lemmas.Bool.{lt-leb}
+use Rattle.std.proofs.lemmas.List.{length-take-le, length-drop, get_or-take, get_or-drop, take_at, drop_at}
+use mathlib.Core.List.{foldl}
+use Rattle.std.specs.List.{list_all}
+use Rattle.std.proofs.lemmas.List.Folds.{list_all-append}
+use Rattle.std.specs.Float.{nan, binary64}
+use Rattle.std.specs.Float.Ieee.{add, mul}
 use Rattle.laws.specs.Choice.{pick_yes, pick_no}
-use Rattle.laws.specs.Loops.{iter, over, over_at, over-ahead, over-at}
-use Rattle.laws.specs.Readings.{iter-cong, iter-split, over-cong, over-split, over_at-cong}
+use Rattle.laws.specs.Loops.{iter, over, length_over}
+use Rattle.laws.specs.Readings.{iter-cong, iter-split, iter-fold, over-cong, over-split, over-front, over_at-back}
 use Rattle.numbers.specs.Finite.{plus, is_finite}
 use Rattle.rho_taps.specs.Update.{nudge_of, updated_of, sound_of}
 use Rattle.rho_taps.specs.Ring.{lag_slot_of, lag_of, estimate_of, window_energy_of}
+use Rattle.rho_taps.specs.Runs.{newest, estimate_from, energy_from, nudged_by}
+use Rattle.rho_taps.proofs.Parts.{newest-is}
 
 pub slot-newer : (pos n k : ℕ) → k ≤ pos → pos - k ≡ lag_slot_of pos n k
 unfolding lag_slot_of
@@ -29,63 +31,80 @@ slot-older pos n k h l = pick_no _ _ _ (lt-leb (pos + 1 + k) pos (omega arith)) 
     same : (pos n k : ℕ) → pos < n → k < n - 1 - pos → n - 1 - k ≡ pos + n - (pos + 1 + k)
     same pos n k h l = omega arith
 
--- all n lags: those of the first run, and those of the second
-whole : (pos n : ℕ) → pos < n → pos + 1 + (n - 1 - pos) ≡ n
-whole pos n h = omega arith
+-- where the runs part
+front-long : (h : List Float) (pos : ℕ) → pos < length h → length (take (pos + 1) h) ≡ pos + 1
+front-long h pos b = length-take-le (pos + 1) h (omega arith)
 
-module _ {A : Type 0} (f g h : ℕ → A → A) (pos n : ℕ) (b : pos < n) (p : (k : ℕ) (x : A) → k < pos + 1 → g k x ≡ f k x) (q : (k : ℕ) (x : A) → k < n - 1 - pos → h k x ≡ f (pos + 1 + k) x) where
-  pub two_runs : (a : A) → iter h (iter g a (pos + 1)) (n - 1 - pos) ≡ iter f a n
-  two_runs a =
-      iter-cong h (λ k. f (pos + 1 + k)) (iter g a (pos + 1)) (n - 1 - pos) q
-      ∙ ap (λ (x : A). iter (λ k. f (pos + 1 + k)) x (n - 1 - pos)) (iter-cong g f a (pos + 1) p)
-      ∙ sym (iter-split f a (pos + 1) (n - 1 - pos))
-      ∙ ap (iter f a) (whole pos n b)
+lag-newer : (h : List Float) (pos k : ℕ) → pos < length h → k < pos + 1 → newest (take (pos + 1) h) k ≡ lag_of h pos (length h) k
+lag-newer h pos k b l =
+    let p : pos + 1 - 1 - k ≡ pos - k = omega arith in
+    newest-is (take (pos + 1) h) h (pos + 1) (lag_slot_of pos (length h) k) k (front-long h pos b)
+    (get_or-take (pos + 1) h (pos + 1 - 1 - k) nan (omega arith) ∙ ap (λ (i : ℕ). get_or h i nan) (p ∙ slot-newer pos (length h) k (omega arith)))
 
-  pub two-overs : (d : List A) → over_at (pos + 1) (n - 1 - pos) h (over (pos + 1) g d) ≡ over n f d
-  two-overs d =
-      over_at-cong (pos + 1) (n - 1 - pos) h (λ k. f (pos + 1 + k)) (over (pos + 1) g d) q
-      ∙ ap (λ (l : List A). over_at (pos + 1) (n - 1 - pos) (λ k. f (pos + 1 + k)) l) (over-cong g f d (pos + 1) p)
-      ∙ sym (over-split f d (pos + 1) (n - 1 - pos))
-      ∙ ap (λ (m : ℕ). over m f d) (whole pos n b)
+lag-older : (h : List Float) (pos k : ℕ) → pos < length h → k < length h - (pos + 1) → newest (drop (pos + 1) h) k ≡ lag_of h pos (length h) (pos + 1 + k)
+lag-older h pos k b l =
+    let p : pos + 1 + (length h - (pos + 1) - 1 - k) ≡ length h - 1 - k = omega arith in
+    newest-is (drop (pos + 1) h) h (length h - (pos + 1)) (lag_slot_of pos (length h) (pos + 1 + k)) k (length-drop (pos + 1) h)
+    (get_or-drop (pos + 1) h (length h - (pos + 1) - 1 - k) nan
+    ∙ ap (λ (i : ℕ). get_or h i nan) (p ∙ slot-older pos (length h) k b (omega arith)))
 
--- a lag of each run, by its place
-lag-newer : (h : List Float) (pos n k : ℕ) → k < pos + 1 → get_or h (pos - k) nan ≡ lag_of h pos n k
-lag-newer h pos n k l = ap (λ (i : ℕ). get_or h i nan) (slot-newer pos n k (omega arith))
+-- a loop over all p + q lags
+two_runs : {A : Type 0} (f g h : ℕ → A → A) (p q n : ℕ) → p + q ≡ n → ((k : ℕ) (x : A) → k < p → g k x ≡ f k x) → ((k : ℕ) (x : A) → k < q → h k x ≡ f (p + k) x)
+    → (a : A) → iter h (iter g a p) q ≡ iter f a n
+two_runs {A} f g h p q n e s t a =
+    iter-cong h (λ k. f (p + k)) (iter g a p) q t
+    ∙ ap (λ (x : A). iter (λ k. f (p + k)) x q) (iter-cong g f a p s)
+    ∙ sym (iter-split f a p q)
+    ∙ ap (iter f a) e
 
-lag-older : (h : List Float) (pos n k : ℕ) → pos < n → k < n - 1 - pos → get_or h (n - 1 - k) nan ≡ lag_of h pos n (pos + 1 + k)
-lag-older h pos n k b l = ap (λ (i : ℕ). get_or h i nan) (slot-older pos n k b l)
+module _ (w h : List Float) (pos : ℕ) (b : pos < length h) where
+  -- the two runs have all lags
+  both-long : length (take (pos + 1) h) + length (drop (pos + 1) h) ≡ length h
+  both-long = omega (arith, front-long h pos b, length-drop (pos + 1) h)
 
-pub estimate-runs : (w h : List Float) (pos n : ℕ) → pos < n
-    → iter (λ k a. add binary64 a (mul binary64 (get_or w (pos + 1 + k) nan) (get_or h (n - 1 - k) nan)))
-    (iter (λ k a. add binary64 a (mul binary64 (get_or w (0 + k) nan) (get_or h (pos - k) nan))) plus (pos + 1)) (n - 1 - pos)
-    ≡ estimate_of w h pos n
-unfolding estimate_of
-estimate-runs w h pos n b =
-    two_runs (λ k a. add binary64 a (mul binary64 (get_or w k nan) (lag_of h pos n k))) _ _ pos n b
-    (λ k x l. rw (zero-add k, lag-newer h pos n k l))
-    (λ k x l. rw (lag-older h pos n k b l)) plus
+  pub estimate-runs : estimate_from (estimate_from plus (take (pos + 1) w) (take (pos + 1) h)) (drop (pos + 1) w) (drop (pos + 1) h) ≡ estimate_of w h pos (length h)
+  unfolding estimate_of
+  estimate-runs =
+      two_runs (λ k a. add binary64 a (mul binary64 (get_or w k nan) (lag_of h pos (length h) k))) _ _ (length (take (pos + 1) h)) (length (drop (pos + 1) h)) (length h) both-long
+      (λ k x l. let i : k < pos + 1 = omega (arith, front-long h pos b) in rw (get_or-take (pos + 1) w k nan i, lag-newer h pos k b i) refl)
+      (λ k x l. let i : k < length h - (pos + 1) = omega (arith, length-drop (pos + 1) h) in rw (front-long h pos b, get_or-drop (pos + 1) w k nan, lag-older h pos k b i) refl)
+      plus
 
-pub energy-runs : (h : List Float) (pos n : ℕ) → pos < n
-    → iter (λ k a. add binary64 a (mul binary64 (get_or h (n - 1 - k) nan) (get_or h (n - 1 - k) nan)))
-    (iter (λ k a. add binary64 a (mul binary64 (get_or h (pos - k) nan) (get_or h (pos - k) nan))) plus (pos + 1)) (n - 1 - pos)
-    ≡ window_energy_of h pos n
-unfolding window_energy_of
-energy-runs h pos n b =
-    two_runs (λ k a. add binary64 a (mul binary64 (lag_of h pos n k) (lag_of h pos n k))) _ _ pos n b
-    (λ k x l. rw (lag-newer h pos n k l))
-    (λ k x l. rw (lag-older h pos n k b l)) plus
+  pub energy-runs : energy_from (energy_from plus (take (pos + 1) h)) (drop (pos + 1) h) ≡ window_energy_of h pos (length h)
+  unfolding window_energy_of
+  energy-runs =
+      two_runs (λ k a. add binary64 a (mul binary64 (lag_of h pos (length h) k) (lag_of h pos (length h) k))) _ _ (length (take (pos + 1) h)) (length (drop (pos + 1) h)) (length h) both-long
+      (λ k x l. let i : k < pos + 1 = omega (arith, front-long h pos b) in rw (lag-newer h pos k b i) refl)
+      (λ k x l. let i : k < length h - (pos + 1) = omega (arith, length-drop (pos + 1) h) in rw (front-long h pos b, lag-older h pos k b i) refl)
+      plus
 
 -- ---- the update's two runs
-pub updated-runs : (scale : Float) (h w : List Float) (pos n : ℕ) → pos < n
-    → over_at (pos + 1) (n - 1 - pos) (λ k x. nudge_of scale (get_or h (n - 1 - k) nan) x) (over_at 0 (pos + 1) (λ k x. nudge_of scale (get_or h (pos - k) nan) x) w)
-    ≡ updated_of scale h pos n w
-unfolding updated_of over_at
-updated-runs scale h w pos n b =
-    two-overs (λ k x. nudge_of scale (lag_of h pos n k) x) _ _ pos n b
-    (λ k x l. ap (λ (y : Float). nudge_of scale y x) (lag-newer h pos n k l))
-    (λ k x l. ap (λ (y : Float). nudge_of scale y x) (lag-older h pos n k b l)) w
+pub updated-runs : (scale : Float) (h w : List Float) (pos : ℕ) → pos < length h → length w ≡ length h
+    → nudged_by scale (take (pos + 1) h) (take (pos + 1) w) ++ nudged_by scale (drop (pos + 1) h) (drop (pos + 1) w) ≡ updated_of scale h pos (length h) w
+unfolding updated_of
+updated-runs scale h w pos b e =
+    let f : ℕ → Float → Float = λ k x. nudge_of scale (lag_of h pos (length h) k) x in
+    let whole : pos + 1 + (length h - (pos + 1)) ≡ length h = omega arith in
+    ap (λ (l : List Float). l ++ nudged_by scale (drop (pos + 1) h) (drop (pos + 1) w))
+    (ap (λ (n : ℕ). over n (λ k x. nudge_of scale (newest (take (pos + 1) h) k) x) (take (pos + 1) w)) (front-long h pos b)
+    ∙ over-cong _ f (take (pos + 1) w) (pos + 1) (λ k x l. ap (λ (y : Float). nudge_of scale y x) (lag-newer h pos k b l)))
+    ∙ ap (λ (l : List Float). over (pos + 1) f (take (pos + 1) w) ++ l)
+    (ap (λ (n : ℕ). over n (λ k x. nudge_of scale (newest (drop (pos + 1) h) k) x) (drop (pos + 1) w)) (length-drop (pos + 1) h)
+    ∙ over-cong _ (λ k. f (pos + 1 + k)) (drop (pos + 1) w) (length h - (pos + 1)) (λ k x l. ap (λ (y : Float). nudge_of scale y x) (lag-older h pos k b l)))
+    ∙ front-back f w (pos + 1) (length h - (pos + 1)) (omega arith)
+    ∙ ap (λ (n : ℕ). over n f w) whole
+  where
+    -- the first p places, and then the next q
+    front-back : (f : ℕ → Float → Float) (w : List Float) (p q : ℕ) → p ≤ length w → over p f (take p w) ++ over q (λ k. f (p + k)) (drop p w) ≡ over (p + q) f w
+    front-back f w p q b =
+        let s : length (over p f (take p w)) ≡ p = length_over p f (take p w) ∙ length-take-le p w b in
+        sym
+        (over-split f w p q
+        ∙ over_at-back p q (λ k. f (p + k)) (over p f w)
+        ∙ ap (λ (l : List Float). take p l ++ over q (λ k. f (p + k)) (drop p l)) (over-front p f w)
+        ∙ rw (take_at (over p f (take p w)) (drop p w) p s, drop_at (over p f (take p w)) (drop p w) p s) refl)
 
--- a verdict so far, and the verdict on the rest
+-- whether all are finite: one by one from the front, and of the list
 and-true : (b : Bool) → b ≡ (b && true)
 and-true true = refl
 and-true false = refl
@@ -94,24 +113,23 @@ and_assoc : (a b c : Bool) → ((a && b) && c) ≡ (a && (b && c))
 and_assoc true b c = refl
 and_assoc false b c = refl
 
-pub verdict-from : (g : ℕ → Bool) (b : Bool) (n : ℕ) → iter (λ k s. s && g k) b n ≡ (b && iter (λ k s. s && g k) true n)
-unfolding iter
-verdict-from g b zero = and-true b
-verdict-from g b (suc n) = ap (λ (s : Bool). s && g n) (verdict-from g b n) ∙ and_assoc b (iter (λ k s. s && g k) true n) (g n)
+all-from : (w : List Float) (b : Bool) → foldl (λ (a : Bool) (x : Float). a && is_finite x) b w ≡ (b && list_all is_finite w)
+all-from [] b = and-true b
+all-from (x ∷ w) b = all-from w (b && is_finite x) ∙ and_assoc b (is_finite x) (list_all is_finite w)
 
--- the verdict on all, by those of the two runs
-pub sound-runs : (scale : Float) (h w : List Float) (pos n : ℕ) → pos < n → n ≡ length w
-    → (iter (λ k s. s && is_finite (nudge_of scale (get_or h (pos - k) nan) (get_or w (0 + k) nan))) true (pos + 1)
-    && iter (λ k s. s && is_finite (nudge_of scale (get_or h (n - 1 - k) nan) (get_or (over_at 0 (pos + 1) (λ k x. nudge_of scale (get_or h (pos - k) nan) x) w) (pos + 1 + k) nan))) true (n - 1 - pos))
-    ≡ sound_of n (updated_of scale h pos n w)
-unfolding sound_of updated_of over_at
-sound-runs scale h w pos n b e =
-    let f : ℕ → Float → Float = λ k x. nudge_of scale (lag_of h pos n k) x in
-    let g : ℕ → Bool = λ k. is_finite (f k (get_or w k nan)) in
-    sym (verdict-from _ _ (n - 1 - pos))
-    ∙ two_runs (λ k s. s && g k) _ _ pos n b
-    (λ k s l. rw (zero-add k, lag-newer h pos n k l))
-    (λ k s l. rw (lag-older h pos n k b l, over-ahead nan (pos + 1) (pos + 1 + k) (λ j x. nudge_of scale (get_or h (pos - j) nan) x) w (omega arith)))
-    true
-    ∙ iter-cong (λ k s. s && g k) (λ k s. s && is_finite (get_or (over n f w) k nan)) true n
-    (λ k s l. ap (λ (x : Float). s && is_finite x) (sym (over-at nan n k f w l (omega arith))))
+pub sound-all : (w : List Float) → sound_of (length w) w ≡ list_all is_finite w
+unfolding sound_of
+sound-all w = iter-fold nan (λ (a : Bool) (x : Float). a && is_finite x) true w ∙ all-from w true
+
+updated-long : (scale : Float) (h w : List Float) (pos : ℕ) → length (updated_of scale h pos (length h) w) ≡ length w
+unfolding updated_of
+updated-long scale h w pos = length_over (length h) (λ k x. nudge_of scale (lag_of h pos (length h) k) x) w
+
+pub sound-runs : (scale : Float) (h w first second : List Float) (pos : ℕ) {s t : Bool} → length w ≡ length h → first ++ second ≡ updated_of scale h pos (length h) w
+    → s ≡ list_all is_finite first → t ≡ list_all is_finite second → (s && t) ≡ sound_of (length h) (updated_of scale h pos (length h) w)
+sound-runs scale h w first second pos e u p q =
+    rw (p, q)
+    (sym (list_all-append is_finite first second)
+    ∙ ap (list_all is_finite) u
+    ∙ sym (sound-all (updated_of scale h pos (length h) w))
+    ∙ ap (λ (n : ℕ). sound_of n (updated_of scale h pos (length h) w)) (updated-long scale h w pos ∙ e))

@@ -1,3 +1,4 @@
 pub mod Ring
 pub mod Peak
 pub mod Update
+pub mod Runs

@@ -1,6 +1,8 @@
 // The peak magnitude of the far history. One running maximum is a chain in which each step waits for
 // the one before. Sixteen side by side do not wait for each other, and the greatest size is the same in
 // any order.
+#![tactic(auto, unfolding(laws::specs::Choice::pick, crate::specs::Peak::greater_of, crate::specs::Peak::with_size))]
+
 ghost use Rattle.std.specs.Prelude.{◌≡◌, ◌*◌, ◌≤◌, ◌<◌, length};
 ghost use Rattle.rho_taps.specs.Ring.{peak_of};
 ghost use Rattle.rho_taps.specs.Peak.{peak_up, greater_of, with_size, onward_of, lanes_of};
@@ -19,8 +21,8 @@ pub fn peak(history: &[f32]) -> f32
 {
     let n = history.len() / 16;
     let p = lanes(history, n);
-    let m = onward(&p, 0, 0.0f32);
-    onward(history, 16 * n, m)
+    let m = onward(&p, 0.0);
+    onward(&history[16 * n..], m)
 }
 
 // Sixteen running maxima over the first 16 n samples.
@@ -29,25 +31,21 @@ fn lanes(xs: &[f32], n: usize) -> [f32; 16]
     ensures { result ≡ lanes_of xs.now n }
 {
     let mut p = [0.0f32; 16];
-    let mut b = 0usize;
-    while b < n {
+    for b in 0..n {
         for q in 0..16usize {
             p[q] = with_size(p[q], xs[16 * b + q]);
         }
-        b += 1;
     }
     p
 }
 
-// One running maximum, from p, over the samples from `start` to the end.
-fn onward(xs: &[f32], start: usize, p: f32) -> f32
-    requires { start ≤ length xs.now }
-    ensures { result ≡ onward_of xs.now start p }
+// One running maximum, from p.
+fn onward(xs: &[f32], p: f32) -> f32
+    ensures { result ≡ onward_of xs.now 0 p }
 {
-    let n = xs.len() - start;
     let mut m = p;
-    for k in 0..n {
-        m = with_size(m, xs[start + k]);
+    for x in xs {
+        m = with_size(m, *x);
     }
     m
 }

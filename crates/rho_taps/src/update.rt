@@ -1,38 +1,21 @@
 // The NLMS update: each weight takes its step, in the lag order of the sums, and where one is not finite all are cleared.
-ghost use Rattle.std.specs.Prelude.{◌≡◌, true, not, ◌&&◌, ℕ, ◌+◌, ◌-◌, ◌<◌, ◌≤◌, length, get_or, replicate, T};
+#![tactic(auto, unfolding(crate::specs::Update::scale_of, crate::specs::Update::nudge_of))]
+
+ghost use Rattle.std.specs.Prelude.{◌≡◌, true, ℕ, ◌<◌, length, get_or};
+ghost use Rattle.std.specs.List.{list_all};
 ghost use Rattle.std.specs.Float.{nan, binary32, binary64};
-ghost use Rattle.std.specs.Float.Ieee.{add, mul, is_nan};
-ghost use Rattle.laws.specs.Loops.{iter, over_at};
-ghost use Rattle.numbers.specs.Finite.{plus, is_finite};
+ghost use Rattle.std.specs.Float.Ieee.{add, mul};
+ghost use Rattle.laws.specs.Loops.{over};
+ghost use Rattle.numbers.specs.Finite.{is_finite};
 ghost use Rattle.numbers.specs.Narrowing.{narrow_of};
-ghost use Rattle.laws.specs.Counting.{one_more};
+ghost use Rattle.rho_taps.specs.Runs.{NoNan, newest, nudged_by};
 ghost use Rattle.rho_taps.specs.Update.{scale_of, nudge_of, updated_of, sound_of, adapted_of};
 
-use crate::clean::{clean, wide};
+use crate::clean::{clean, widen};
 
 const STEP_SIZE: f64 = 0.5;
 
 const REGULARIZATION: f64 = 1e-3;
-
-// All weights +0.0.
-pub fn clear(weights: &mut [f32])
-    ensures { weights.new ≡ replicate (length weights.old) plus }
-{
-    let mut i = 0usize;
-    while i < weights.len() {
-        weights[i] = 0.0;
-        i += 1;
-    }
-}
-
-pub fn one_more(n: u64) -> u64
-    ensures { result ≡ one_more n }
-{
-    if n < u64::MAX {
-        return n + 1;
-    }
-    n
-}
 
 fn scale_of(error: f64, energy: f64) -> f64
     ensures { result ≡ scale_of error energy }
@@ -46,142 +29,104 @@ fn nudge(scale: f64, x: f32, weight: f32) -> f32
     weight + numbers::narrow(scale * numbers::widen(x))
 }
 
-// One run: the weights from `from` upward by the history from `top` downward. Whether all of them are finite. In groups, since the
-// compiler takes one weight after the other where each is narrowed by itself.
-fn update_run(
-    scale: f64,
-    history: &[f32],
-    top: usize,
-    weights: &mut [f32],
-    from: usize,
-    count: usize,
-) -> bool
-    requires count_in_bounds { from + count ≤ length weights.old }
-    requires count_bound { count ≤ top + 1 }
-    requires top_in_bounds { top < length history.now }
-    ensures weights_after { weights.new ≡ over_at from count (λ k w. nudge_of scale (get_or history.now (top - k) nan) w) weights.old }
-    ensures value { result ≡ iter (λ k sound. sound && is_finite (nudge_of scale (get_or history.now (top - k) nan) (get_or weights.old (from + k) nan))) true count }
+// What 32 weights are to change by, with the samples downward. All products first: `narrow_into` narrows several at once.
+fn steps_of(scale: f64, samples: &[f32]) -> [f32; 32]
+    requires { length samples.now ≡ 32 }
+    ensures { (k : ℕ) → k < 32 → get_or result k nan ≡ narrow_of (mul binary64 scale (newest samples.now k)) }
 {
-    let mut sound = true;
-    let mut k = 0usize;
-    while 32 <= count - k {
-        let fine = update_group(scale, history, top + 1 - k, weights, from + k);
-        sound = sound & fine;
-        k += 32;
-    }
-    let rest = update_rest(scale, history, top + 1 - k, weights, from + k, count - k);
-    sound & rest
-}
-
-// The 32 weights from `from` upward by the history below place `upper`, downward. Whether all of them are finite.
-fn update_group(scale: f64, history: &[f32], upper: usize, weights: &mut [f32], from: usize) -> bool
-    requires from_in_bounds { from + 32 ≤ length weights.old }
-    requires le_upper { 32 ≤ upper }
-    requires upper_in_bounds { upper ≤ length history.now }
-    ensures weights_after { weights.new ≡ over_at from 32 (λ k w. nudge_of scale (get_or history.now (upper - 1 - k) nan) w) weights.old }
-    ensures value { result ≡ iter (λ k sound. sound && is_finite (nudge_of scale (get_or history.now (upper - 1 - k) nan) (get_or weights.old (from + k) nan))) true 32 }
-{
-    let steps = steps_below(scale, history, upper);
-    add_steps(&steps, weights, from)
-}
-
-// What 32 weights are to change by. All products first: `narrow_into` narrows several at once.
-fn steps_below(scale: f64, history: &[f32], upper: usize) -> [f32; 32]
-    requires le_upper { 32 ≤ upper }
-    requires upper_in_bounds { upper ≤ length history.now }
-    ensures { (k : ℕ) → k < 32 → get_or result k nan ≡ narrow_of (mul binary64 scale (get_or history.now (upper - 1 - k) nan)) }
-{
-    let products = products_below(scale, history, upper);
+    let products = products_of(scale, samples);
     let mut steps = [0.0f32; 32];
     narrow_list::narrow_into(&products, &mut steps);
     steps
 }
 
-fn products_below(scale: f64, history: &[f32], upper: usize) -> [f64; 32]
-    requires le_upper { 32 ≤ upper }
-    requires upper_in_bounds { upper ≤ length history.now }
-    ensures { (k : ℕ) → k < 32 → get_or result k nan ≡ mul binary64 scale (get_or history.now (upper - 1 - k) nan) }
+fn products_of(scale: f64, samples: &[f32]) -> [f64; 32]
+    requires { length samples.now ≡ 32 }
+    ensures { (k : ℕ) → k < 32 → get_or result k nan ≡ mul binary64 scale (newest samples.now k) }
 {
-    if clean(history, upper - 32) {
-        return clean_products(scale, history, upper);
+    if clean(samples) {
+        widened_products::<true>(scale, samples)
+    } else {
+        widened_products::<false>(scale, samples)
     }
-    tested_products(scale, history, upper)
 }
 
 // By itself: no reference to the products is taken here, so the compiler knows that a store leaves the history alone, and takes
 // several at once.
-fn clean_products(scale: f64, history: &[f32], upper: usize) -> [f64; 32]
-    requires le_upper { 32 ≤ upper }
-    requires upper_in_bounds { upper ≤ length history.now }
-    requires by_index { (k : ℕ) → k < 32 → T (not (is_nan (get_or history.now (upper - 32 + k) nan))) }
-    ensures { (k : ℕ) → k < 32 → get_or result k nan ≡ mul binary64 scale (get_or history.now (upper - 1 - k) nan) }
+fn widened_products<const CLEAN: bool>(scale: f64, samples: &[f32]) -> [f64; 32]
+    requires samples_len { length samples.now ≡ 32 }
+    requires clean_samples { CLEAN ≡ true → NoNan samples.now }
+    ensures { (k : ℕ) → k < 32 → get_or result k nan ≡ mul binary64 scale (newest samples.now k) }
 {
     let mut products = [0.0f64; 32];
-    let mut k = 0usize;
-    while k < 32 {
-        let x = wide(history[upper - 1 - k]);
+    for k in 0..32usize {
+        let x = widen::<CLEAN>(samples[31 - k]);
         products[k] = scale * x;
-        k += 1;
     }
     products
 }
 
-fn tested_products(scale: f64, history: &[f32], upper: usize) -> [f64; 32]
-    requires le_upper { 32 ≤ upper }
-    requires upper_in_bounds { upper ≤ length history.now }
-    ensures { (k : ℕ) → k < 32 → get_or result k nan ≡ mul binary64 scale (get_or history.now (upper - 1 - k) nan) }
-{
-    let mut products = [0.0f64; 32];
-    let mut k = 0usize;
-    while k < 32 {
-        let x = numbers::widen(history[upper - 1 - k]);
-        products[k] = scale * x;
-        k += 1;
-    }
-    products
-}
-
-fn add_steps(steps: &[f32; 32], weights: &mut [f32], from: usize) -> bool
-    requires { from + 32 ≤ length weights.old }
-    ensures weights_after { weights.new ≡ over_at from 32 (λ k w. add binary32 w (get_or steps.now k nan)) weights.old }
-    ensures value { result ≡ iter (λ k sound. sound && is_finite (add binary32 (get_or weights.old (from + k) nan) (get_or steps.now k nan))) true 32 }
+fn add_steps(steps: &[f32; 32], weights: &mut [f32]) -> bool
+    requires { length weights.old ≡ 32 }
+    ensures weights_after { weights.new ≡ over 32 (λ k weight. add binary32 weight (get_or steps.now k nan)) weights.old }
+    ensures value { result ≡ list_all is_finite weights.new }
 {
     let mut sound = true;
-    let mut k = 0usize;
-    while k < 32 {
-        let next = weights[from + k] + steps[k];
-        weights[from + k] = next;
+    for k in 0..32usize {
+        let next = weights[k] + steps[k];
+        weights[k] = next;
         sound = sound & numbers::is_finite32(next);
-        k += 1;
     }
     sound
 }
 
-// What a run leaves after its groups, one by one.
-fn update_rest(
-    scale: f64,
-    history: &[f32],
-    upper: usize,
-    weights: &mut [f32],
-    from: usize,
-    count: usize,
-) -> bool
-    requires count_in_bounds { from + count ≤ length weights.old }
-    requires count_le_upper { count ≤ upper }
-    requires upper_in_bounds { upper ≤ length history.now }
-    ensures weights_after { weights.new ≡ over_at from count (λ k w. nudge_of scale (get_or history.now (upper - 1 - k) nan) w) weights.old }
-    ensures value { result ≡ iter (λ k sound. sound && is_finite (nudge_of scale (get_or history.now (upper - 1 - k) nan) (get_or weights.old (from + k) nan))) true count }
+// 32 weights upward by as many samples downward. Whether all of the weights are finite.
+fn update_group(scale: f64, samples: &[f32], weights: &mut [f32]) -> bool
+    requires samples_len { length samples.now ≡ 32 }
+    requires weights_len { length weights.old ≡ 32 }
+    ensures weights_after { weights.new ≡ nudged_by scale samples.now weights.old }
+    ensures value { result ≡ list_all is_finite weights.new }
+{
+    let steps = steps_of(scale, samples);
+    add_steps(&steps, weights)
+}
+
+// One by one.
+fn update_rest(scale: f64, samples: &[f32], weights: &mut [f32]) -> bool
+    requires { length samples.now ≡ length weights.old }
+    ensures weights_after { weights.new ≡ nudged_by scale samples.now weights.old }
+    ensures value { result ≡ list_all is_finite weights.new }
 {
     let mut sound = true;
-    let mut k = 0usize;
-    while k < count {
-        let at = from + k;
-        let next = nudge(scale, history[upper - 1 - k], weights[at]);
-        weights[at] = next;
+    let n = samples.len();
+    for k in 0..n {
+        let next = nudge(scale, samples[n - 1 - k], weights[k]);
+        weights[k] = next;
         sound = sound & numbers::is_finite32(next);
-        k += 1;
     }
     sound
+}
+
+// In groups, since the compiler takes one weight after the other where each is narrowed by itself, and then what they leave.
+fn update_run(scale: f64, samples: &[f32], weights: &mut [f32]) -> bool
+    requires { length samples.now ≡ length weights.old }
+    ensures weights_after { weights.new ≡ nudged_by scale samples.now weights.old }
+    ensures value { result ≡ list_all is_finite weights.new }
+{
+    let mut sound = true;
+    let n = samples.len();
+    for g in 0..n / 32 {
+        let at = 32 * g;
+        let fine = update_group(
+            scale,
+            &samples[n - at - 32..n - at],
+            &mut weights[at..at + 32],
+        );
+        sound = sound & fine;
+    }
+    let rest = n % 32;
+    let fine = update_rest(scale, &samples[..rest], &mut weights[n - rest..]);
+    sound & fine
 }
 
 // All weights updated. Whether all of them are finite.
@@ -191,10 +136,11 @@ fn update(scale: f64, history: &[f32], pos: usize, weights: &mut [f32]) -> bool
     ensures weights_after { weights.new ≡ updated_of scale history.now pos (length history.now) weights.old }
     ensures value { result ≡ sound_of (length history.now) (updated_of scale history.now pos (length history.now) weights.old) }
 {
-    let newer = update_run(scale, history, pos, weights, 0, pos + 1);
-    let top = history.len() - 1;
-    let older = update_run(scale, history, top, weights, pos + 1, top - pos);
-    newer & older
+    let (newer, older) = history.split_at(pos + 1);
+    let (first, second) = weights.split_at_mut(pos + 1);
+    let sound_first = update_run(scale, newer, first);
+    let sound_second = update_run(scale, older, second);
+    sound_first & sound_second
 }
 
 // What the pair does to the filter. The answer is the new count of resets.
@@ -213,8 +159,8 @@ pub fn adapt(
     ensures { record { weights = weights.new; resets = result } ≡ adapted_of fine freeze (scale_of error energy) history.now pos (length history.now) weights.old resets }
 {
     if !fine {
-        clear(weights);
-        return one_more(resets);
+        weights.fill(0.0);
+        return resets.saturating_add(1);
     }
     if freeze != 0 {
         return resets;
@@ -222,6 +168,6 @@ pub fn adapt(
     if update(scale_of(error, energy), history, pos, weights) {
         return resets;
     }
-    clear(weights);
-    one_more(resets)
+    weights.fill(0.0);
+    resets.saturating_add(1)
 }

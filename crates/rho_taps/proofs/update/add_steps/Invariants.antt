@@ -1,14 +1,13 @@
-use mathlib.Core.Path.{◌≡◌}
-use mathlib.Core.Bool.{true, ◌&&◌}
-use Prim.Native.Nat.{◌+◌, ◌-◌, ◌≤◌}
-use lib.Ieee.{nan, binary32, add}
-use lib.ListN.{length, get_or}
-use Rattle.laws.specs.Loops.{iter, over_at}
+use Rattle.std.proofs.Common.{◌≡◌, get_or, take}
+use Rattle.std.specs.List.{list_all}
+use Rattle.std.specs.Float.{nan, binary32}
+use Rattle.std.specs.Float.Ieee.{add}
+use Rattle.laws.specs.Loops.{over}
 use Rattle.numbers.specs.Finite.{is_finite}
 use Rattle.rho_taps.proofs.update.add_steps.Given as goal
 
 abbrev pub invariant-loop-k : goal.invariant-loop-k
-invariant-loop-k l = (l.k ≤ 32) × (length l.weights ≡ length l.initial.weights) × (l.weights ≡ over_at l.from l.k (λ j w. add binary32 w (get_or l.steps j nan)) l.initial.weights) × (l.sound ≡ iter (λ j s. s && is_finite (add binary32 (get_or l.initial.weights (l.from + j) nan) (get_or l.steps j nan))) true l.k)
-
-abbrev pub decreases-loop-k : goal.decreases-loop-k
-decreases-loop-k l = 32 - l.k
+invariant-loop-k l = record {
+  weights : l.weights ≡ over l.k (λ j weight. add binary32 weight (get_or l.steps j nan)) l.initial.weights;
+  sound : l.sound ≡ list_all is_finite (take l.k l.weights);
+}

@@ -1,25 +1,30 @@
--- `rho_taps::update_run` meets its contract: a group is 32 weights more of one `over_at`, and what is left goes to the end of the run. Assumes nothing.
-use mathlib.Core.Path.{◌≡◌}
-use Prim.Native.Nat.{◌+◌, ◌-◌}
-use native.Mathlib.Omega.{arith}
-use borrow.Author.Rules.{rules}
-use Rattle.laws.specs.Loops.{iter-none, over_at-none}
-use Rattle.rho_taps.proofs.Groups.{next-weights, next-sound}
+-- A group is 32 weights more, and what the groups leave goes to the end of the run.
+use Rattle.std.proofs.Common.{◌≡◌, ◌+◌, ◌-◌, ◌*◌, ◌%◌, ◌≤◌, length, refl, arith}
+use Rattle.laws.specs.Loops.{over_none}
+use Rattle.rho_taps.proofs.Parts.{group-weights, rest-weights, next-sound, last-sound}
 use Rattle.rho_taps.proofs.update.update_run.Goals as goal
 
-pub loop-k-init : goal.loop-k-init
-loop-k-init c = (omega arith, omega arith, over_at-none _ _ _, iter-none _ _)
+pub loop-g-init : goal.loop-g-init
+loop-g-init c = record { weights = over_none _ _; sound = refl }
 
-pub loop-k-preserved : goal.loop-k-preserved
-loop-k-preserved c = (
-  omega arith,
-  search rules,
-  next-weights c.args.scale c.args.history.now c.args.weights.now c.args.top c.args.from c.loop-k.k 32 c.loop-k.invariant.2 c.update_group-fine.ensures.weights_after,
-  next-sound c.args.scale c.args.history.now c.args.weights.now c.args.top c.args.from c.loop-k.k 32 c.loop-k.invariant.2 c.loop-k.invariant.3 c.update_group-fine.ensures.value,
-)
+pub loop-g-preserved : goal.loop-g-preserved
+loop-g-preserved c =
+    let at = 32 * c.loop-g.g in
+    let e : at + 32 ≡ 32 * (c.loop-g.g + 1) = omega arith in
+    let m : at + 32 - at ≡ 32 = omega arith in
+    let room : 32 * (c.loop-g.g + 1) ≤ length c.args.samples.now = omega arith in
+    record {
+      weights = group-weights c.args.scale c.args.samples.now c.args.weights.now at (at + 32 - at) (32 * (c.loop-g.g + 1)) m e room c.loop-g.invariant.weights c.update_group-fine.ensures.weights_after;
+      sound = next-sound at (at + 32 - at) (32 * (c.loop-g.g + 1)) c.loop-g.weights c.update_group-fine.new.weights (omega arith) (omega arith) c.loop-g.invariant.sound c.update_group-fine.ensures.value;
+    }
 
 pub returns : goal.returns
-returns c = record {
-  weights_after = let e : c.loop-k.k + (c.args.count - c.loop-k.k) ≡ c.args.count = omega arith in rw e at (next-weights c.args.scale c.args.history.now c.args.weights.now c.args.top c.args.from c.loop-k.k (c.args.count - c.loop-k.k) c.loop-k.invariant.2 c.update_rest-rest.ensures.weights_after);
-  value = let e : c.loop-k.k + (c.args.count - c.loop-k.k) ≡ c.args.count = omega arith in rw e at (next-sound c.args.scale c.args.history.now c.args.weights.now c.args.top c.args.from c.loop-k.k (c.args.count - c.loop-k.k) c.loop-k.invariant.2 c.loop-k.invariant.3 c.update_rest-rest.ensures.value);
-}
+returns c =
+    let n = length c.args.samples.now in
+    let m = length c.loop-g.weights - (n - n % 32) in
+    let e : 32 * c.loop-g.g ≡ n - n % 32 = omega arith in
+    let room : n % 32 ≤ n = omega arith in
+    record {
+      weights_after = rest-weights c.args.scale c.args.samples.now c.args.weights.now (n % 32) m (omega arith) room (rw e at c.loop-g.invariant.weights) c.update_rest-fine.ensures.weights_after;
+      value = last-sound (n - n % 32) m c.loop-g.weights c.update_rest-fine.new.weights (omega arith) (rw e at c.loop-g.invariant.sound) c.update_rest-fine.ensures.value;
+    }

@@ -1,16 +1,10 @@
--- `rho_taps::steps_below` meets its contract. Assumes nothing.
--- r has the numbers of p narrowed
-use mathlib.Core.Path.{◌≡◌, refl, ap, ◌∙◌}
-use mathlib.Core.List.{List}
-use Prim.Native.Nat.{ℕ, ◌<◌}
-use native.Mathlib.Omega.{arith}
-use borrow.Author.Rules.{rules}
-use lib.Ieee.{Float, nan}
-use lib.ListN.{length, get_or}
+use Rattle.std.proofs.Common.{◌≡◌, ℕ, ◌<◌, List, Float, length, get_or, ap, ◌∙◌, refl, arith, rules}
+use Rattle.std.specs.Float.{nan}
 use Rattle.laws.specs.Loops.{over, over-at}
 use Rattle.numbers.specs.Narrowing.{narrow_of}
-use Rattle.rho_taps.proofs.update.steps_below.Goals as goal
+use Rattle.rho_taps.proofs.update.steps_of.Goals as goal
 
+-- r has the numbers of p narrowed
 narrowed : (f : ℕ → Float) (p z : List Float) {r : List Float} → length z ≡ 32 → length p ≡ 32 → ((k : ℕ) → k < 32 → get_or p k nan ≡ f k)
     → r ≡ over (length p) (λ k x. narrow_of (get_or p k nan)) z → (k : ℕ) → k < 32 → get_or r k nan ≡ narrow_of (f k)
 narrowed f p z b m e q k l =
@@ -19,4 +13,4 @@ narrowed f p z b m e q k l =
     ∙ ap narrow_of (e k l)
 
 pub returns : goal.returns
-returns c = let m : length c.products_below-products.result ≡ 32 = search rules in narrowed _ c.products_below-products.result _ refl m c.products_below-products.ensures c.narrow_into.ensures.0
+returns c = let m : length c.products_of-products.result ≡ 32 = search rules in narrowed _ c.products_of-products.result _ refl m c.products_of-products.ensures c.narrow_into.ensures.0
