@@ -1,6 +1,7 @@
 // Sine and cosine in a fixed order of operations, with no fused multiply-add, so that a table of them has the same bits everywhere.
 ghost use Rattle.std.specs.Prelude.{◌≡◌};
-ghost use Rattle.trig.specs.Trig.{turns, reduced, fold_sin, sin_poly, cos_poly};
+ghost use Rattle.std.specs.List.{fold};
+ghost use Rattle.trig.specs.Trig.{◌⊕◌, ◌⊗◌, turns, reduced, fold_sin, sin_poly, cos_poly};
 ghost use Rattle.trig.specs.Promises.{DetSin, DetCos};
 
 const PI: f64 = 3.14159265358979323846264338327950288;
@@ -10,6 +11,47 @@ const TWO_PI: f64 = 2.0 * PI;
 
 // Where the range is folded.
 const HALF_PI: f64 = 0.5 * PI;
+
+// a11, and a10, .. a0, the odd coefficients a_k = (-1)^k / (2k + 1)!
+const SINE_LEADING: f64 = -1.0 / 25_852_016_738_884_976_640_000.0;
+
+const SINE: [f64; 11] = [
+    1.0 / 51_090_942_171_709_440_000.0,
+    -1.0 / 121_645_100_408_832_000.0,
+    1.0 / 355_687_428_096_000.0,
+    -1.0 / 1_307_674_368_000.0,
+    1.0 / 6_227_020_800.0,
+    -1.0 / 39_916_800.0,
+    1.0 / 362_880.0,
+    -1.0 / 5_040.0,
+    1.0 / 120.0,
+    -1.0 / 6.0,
+    1.0,
+];
+
+// b11, and b10, .. b0, the even coefficients b_k = (-1)^k / (2k)!
+const COSINE_LEADING: f64 = -1.0 / 1_124_000_727_777_607_680_000.0;
+
+const COSINE: [f64; 11] = [
+    1.0 / 2_432_902_008_176_640_000.0,
+    -1.0 / 6_402_373_705_728_000.0,
+    1.0 / 20_922_789_888_000.0,
+    -1.0 / 87_178_291_200.0,
+    1.0 / 479_001_600.0,
+    -1.0 / 3_628_800.0,
+    1.0 / 40_320.0,
+    -1.0 / 720.0,
+    1.0 / 24.0,
+    -1.0 / 2.0,
+    1.0,
+];
+
+// Horner's method: the polynomial in r2 with these coefficients, from the leading one down.
+fn horner(leading: f64, rest: &[f64], r2: f64) -> f64
+    ensures { result ≡ fold (λ p a. p ⊗ r2 ⊕ a) leading rest.now }
+{
+    rest.iter().fold(leading, |p, a| p * r2 + *a)
+}
 
 // `(x / TWO_PI).round()` for the angles from -pi to 0, the only ones that the tables have. The sign of the zero counts: +0.0 would
 // give the sine of entry 0 as -0.0. Any other x has the same rule, so nothing is asked of x.
@@ -40,37 +82,11 @@ fn fold_sin(r: f64) -> f64
     r
 }
 
-// The Taylor polynomial through r^23, with the odd coefficients a_k = (-1)^k / (2k + 1)!, by Horner's method.
+// The Taylor polynomial through r^23.
 fn sin_poly(r: f64) -> f64
     ensures { result ≡ sin_poly r }
 {
-    let a0 = 1.0;
-    let a1 = -1.0 / 6.0;
-    let a2 = 1.0 / 120.0;
-    let a3 = -1.0 / 5_040.0;
-    let a4 = 1.0 / 362_880.0;
-    let a5 = -1.0 / 39_916_800.0;
-    let a6 = 1.0 / 6_227_020_800.0;
-    let a7 = -1.0 / 1_307_674_368_000.0;
-    let a8 = 1.0 / 355_687_428_096_000.0;
-    let a9 = -1.0 / 121_645_100_408_832_000.0;
-    let a10 = 1.0 / 51_090_942_171_709_440_000.0;
-    let a11 = -1.0 / 25_852_016_738_884_976_640_000.0;
-
-    let r2 = r * r;
-    let mut p = a11;
-    p = p * r2 + a10;
-    p = p * r2 + a9;
-    p = p * r2 + a8;
-    p = p * r2 + a7;
-    p = p * r2 + a6;
-    p = p * r2 + a5;
-    p = p * r2 + a4;
-    p = p * r2 + a3;
-    p = p * r2 + a2;
-    p = p * r2 + a1;
-    p = p * r2 + a0;
-    p * r
+    horner(SINE_LEADING, &SINE, r * r) * r
 }
 
 // Sine of x in radians, for x from -pi to 0. For any other x it is the same steps, which then do not reduce x.
@@ -80,36 +96,11 @@ pub fn det_sin(x: f64) -> f64
     sin_poly(fold_sin(reduced(x)))
 }
 
-// The Taylor polynomial through r^22, with the even coefficients b_k = (-1)^k / (2k)!, by Horner's method.
+// The Taylor polynomial through r^22.
 fn cos_poly(r: f64) -> f64
     ensures { result ≡ cos_poly r }
 {
-    let b0 = 1.0;
-    let b1 = -1.0 / 2.0;
-    let b2 = 1.0 / 24.0;
-    let b3 = -1.0 / 720.0;
-    let b4 = 1.0 / 40_320.0;
-    let b5 = -1.0 / 3_628_800.0;
-    let b6 = 1.0 / 479_001_600.0;
-    let b7 = -1.0 / 87_178_291_200.0;
-    let b8 = 1.0 / 20_922_789_888_000.0;
-    let b9 = -1.0 / 6_402_373_705_728_000.0;
-    let b10 = 1.0 / 2_432_902_008_176_640_000.0;
-    let b11 = -1.0 / 1_124_000_727_777_607_680_000.0;
-
-    let r2 = r * r;
-    let mut p = b11;
-    p = p * r2 + b10;
-    p = p * r2 + b9;
-    p = p * r2 + b8;
-    p = p * r2 + b7;
-    p = p * r2 + b6;
-    p = p * r2 + b5;
-    p = p * r2 + b4;
-    p = p * r2 + b3;
-    p = p * r2 + b2;
-    p = p * r2 + b1;
-    p * r2 + b0
+    horner(COSINE_LEADING, &COSINE, r * r)
 }
 
 // Cosine of x in radians, for the same x as det_sin. det_cos(0) is exactly 1.0.
