@@ -11,3 +11,4 @@ pub mod Ranged
 pub mod Squares
 pub mod Clean
 pub mod Marked
+pub mod Library

@@ -25,7 +25,7 @@ is-nan x e = go x (sym (ne-self x) ∙ e)
     go (inf s) h = absurd (subst (λ (b : Bool). T (not b)) h tt)
     go (fin s m e) h = absurd (subst (λ (b : Bool). T (not b)) h tt)
 
-nan-test : (x : Float) → is_nan x ≡ true → x ≡ nan
+pub nan-test : (x : Float) → is_nan x ≡ true → x ≡ nan
 nan-test x h = is-nan x (ne-self x ∙ h)
 
 pub no_nan : (x : Float) → ne x x ≡ false → T (not (is_nan x))

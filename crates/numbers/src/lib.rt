@@ -4,11 +4,13 @@
 
 mod bits;
 mod finite;
+mod float;
 mod narrowing;
 mod order;
 
 pub use bits::{from_bits, from_bits32, to_bits, to_bits32};
 pub use finite::{finite_or_zero, is_finite, is_finite32};
+pub use float::Float;
 pub use narrowing::{
     HIGH_SQUARE, Kind, Narrowed, is_plain, narrow, narrow_bits, narrow_told, plain_squares,
     rounded, widen,

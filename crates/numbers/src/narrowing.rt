@@ -4,8 +4,8 @@ ghost use Rattle.std.specs.Float.Ieee.Nearest.{closest};
 ghost use Rattle.numbers.specs.Narrowing.{narrow_of, kind_of, mag_of};
 ghost use Rattle.numbers.specs.Promises.{Widen, Narrow, NarrowBits, NarrowTold, KindNumber, IsPlain, PlainSquares, Rounded};
 
-use crate::bits::to_bits32;
-use crate::finite::{is_finite, is_finite32};
+use crate::bits::to_bits;
+use crate::finite::is_finite;
 
 // 2^-252 and 2^254, the squares of the ends of the range that has a short way.
 const LOW_SQUARE: f64 = 1.3817869688151111e-76;
@@ -67,7 +67,7 @@ pub fn narrow(x: f64) -> f32
 pub fn narrow_bits(x: f64) -> u32
     ensures { NarrowBits x result }
 {
-    to_bits32(narrow(x))
+    to_bits(narrow(x))
 }
 
 // `narrow`, and what it did.
@@ -86,7 +86,7 @@ fn kind_of(x: f64, value: f32) -> Kind
     requires { value ≡ narrow_of x }
     ensures { result ≡ kind_of x }
 {
-    if is_finite32(value) {
+    if is_finite(value) {
         if x == widen(value) {
             return Kind::Exact;
         }
@@ -160,8 +160,8 @@ fn magnitude(exponent: u64, digits: u64) -> u64
 
 // m / unit to the nearest whole number, and at a tie to the even one.
 fn half_even(m: u64, unit: u64) -> u64
-    requires fact_1 { 0 < unit }
-    requires fact_2 { m < 2 ^ 53 }
+    requires unit_positive { 0 < unit }
+    requires digits_53 { m < 2 ^ 53 }
     ensures { result ≡ closest m unit }
 {
     let whole = m / unit;

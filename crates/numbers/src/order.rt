@@ -1,29 +1,19 @@
 // Sizes, and the order of two numbers.
 ghost use Rattle.numbers.specs.Promises.{Abs, Min, Max, Clamp, Lesser};
 
+use crate::float::Float;
+
 // |x|: the sign is cleared, of a zero and an infinity too.
-pub fn abs(x: f64) -> f64
-    ensures { Abs x result }
+pub fn abs<F: Float>(x: F) -> F
+    ensures { Abs (F.float x) (F.float result) }
 {
-    if x < 0.0 {
-        return -x;
-    }
-    if x == 0.0 {
-        return 0.0;
-    }
-    x
+    x.abs()
 }
 
 pub fn abs32(s: f32) -> f32
     ensures { Abs s result }
 {
-    if s < 0.0 {
-        return -s;
-    }
-    if s == 0.0 {
-        return 0.0f32;
-    }
-    s
+    abs(s)
 }
 
 pub fn min(x: f64, y: f64) -> f64
@@ -35,22 +25,16 @@ pub fn min(x: f64, y: f64) -> f64
     if y < x { y } else { x }
 }
 
-pub fn max(x: f64, y: f64) -> f64
-    ensures { Max x y result }
+pub fn max<F: Float>(x: F, y: F) -> F
+    ensures { Max (F.float x) (F.float y) (F.float result) }
 {
-    if x != x {
-        return y;
-    }
-    if x < y { y } else { x }
+    x.max(y)
 }
 
 pub fn max32(a: f32, b: f32) -> f32
     ensures { Max a b result }
 {
-    if a != a {
-        return b;
-    }
-    if a < b { b } else { a }
+    max(a, b)
 }
 
 // x held between lo and hi. A NaN stays, and no lo or hi is refused: where hi is below lo, lo is tried first.
@@ -67,5 +51,5 @@ pub fn clamp(x: f64, lo: f64, hi: f64) -> f64
 pub fn lesser(a: usize, b: usize) -> usize
     ensures { Lesser a b result }
 {
-    if a < b { a } else { b }
+    a.min(b)
 }

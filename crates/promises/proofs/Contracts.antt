@@ -10,7 +10,7 @@ use Rattle.promises.specs.Contracts.{Numbers, Tables, Complexes, Transforms, Rho
 
 module _ {M : Type 1} {𝓤 : Ura M} (𝓛 : Logic 𝓤) (mem : Memory → SProp 𝓤) (run : Routine → Fun 𝓤) where
   pub numbers : Numbers 𝓛 mem run
-  numbers = (refl, refl, refl, refl, refl, refl, refl, refl, refl, refl, refl, refl, refl, refl, refl, refl, refl, refl, refl, refl, refl, refl, refl, refl)
+  numbers = (refl, refl, refl, refl, refl, refl, refl, refl, refl, refl, refl, refl, refl, refl, refl, refl, refl, refl, refl, refl, refl, refl, refl, refl, refl, refl, refl, refl, refl)
 
   pub tables : Tables 𝓛 mem run
   tables = (refl, refl, refl, refl)

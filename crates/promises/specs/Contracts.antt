@@ -16,6 +16,8 @@ use contract.Monad.{Fun, fact}
 use denote.Triple.Entry.{Args, Res}
 use denote.Triple.Clauses.{Ended, Clauses, AtExit}
 use Rattle.numbers.specs.contracts as numbers
+use Rattle.numbers.specs.contracts.float.F64Float as f64
+use Rattle.numbers.specs.contracts.float.F32Float as f32
 use Rattle.numbers.specs.contracts.narrowing.U32FromKind as kind
 use Rattle.numbers.specs.Promises.{Abs, Min, Max, Clamp, Lesser, IsFinite, FiniteOrZero, Widen, Narrow, NarrowBits, NarrowTold, KindNumber, IsPlain, PlainSquares, Rounded}
 use Rattle.numbers.specs.Promises.{FromBits, FromBits32, ToBits, ToBits32}
@@ -88,17 +90,20 @@ module _ {M : Type 1} {𝓤 : Ura M} (𝓛 : Logic 𝓤) (mem : Memory → SProp
         ensures = λ _ r e. sep 𝓤 (fact 𝓤 (p κs a r e)) (fact 𝓤 (q κs a r e));
       })
 
-  -- numbers, narrow_list
+  -- numbers, narrow_list; of a function over the trait Float, its method at each width
   abbrev pub Numbers : Type 2
   Numbers =
-      Says numbers.abs.ended (numbers.abs.clauses 𝓛 mem run) (λ _ (x, _) r _. Abs x r)
+      Says f64.abs.ended (f64.abs.clauses 𝓛 mem run) (λ _ (x, _) r _. Abs x r)
+      × Says f32.abs.ended (f32.abs.clauses 𝓛 mem run) (λ _ (x, _) r _. Abs x r)
       × Says numbers.abs32.ended (numbers.abs32.clauses 𝓛 mem run) (λ _ (x, _) r _. Abs x r)
       × Says numbers.min.ended (numbers.min.clauses 𝓛 mem run) (λ _ (x, (y, _)) r _. Min x y r)
-      × Says numbers.max.ended (numbers.max.clauses 𝓛 mem run) (λ _ (x, (y, _)) r _. Max x y r)
+      × Says f64.max.ended (f64.max.clauses 𝓛 mem run) (λ _ (x, (y, _)) r _. Max x y r)
+      × Says f32.max.ended (f32.max.clauses 𝓛 mem run) (λ _ (x, (y, _)) r _. Max x y r)
       × Says numbers.max32.ended (numbers.max32.clauses 𝓛 mem run) (λ _ (x, (y, _)) r _. Max x y r)
       × Says numbers.clamp.ended (numbers.clamp.clauses 𝓛 mem run) (λ _ (x, (lo, (hi, _))) r _. Clamp x lo hi r)
       × Says numbers.lesser.ended (numbers.lesser.clauses 𝓛 mem run) (λ _ (a, (b, _)) r _. Lesser a b r)
-      × Says numbers.is_finite.ended (numbers.is_finite.clauses 𝓛 mem run) (λ _ (x, _) r _. IsFinite x r)
+      × Says f64.is_finite.ended (f64.is_finite.clauses 𝓛 mem run) (λ _ (x, _) r _. IsFinite x r)
+      × Says f32.is_finite.ended (f32.is_finite.clauses 𝓛 mem run) (λ _ (x, _) r _. IsFinite x r)
       × Says numbers.is_finite32.ended (numbers.is_finite32.clauses 𝓛 mem run) (λ _ (x, _) r _. IsFinite x r)
       × Says numbers.finite_or_zero.ended (numbers.finite_or_zero.clauses 𝓛 mem run) (λ _ (x, _) r _. FiniteOrZero x r)
       × Says numbers.widen.ended (numbers.widen.clauses 𝓛 mem run) (λ _ (x, _) r _. Widen x r)
@@ -109,9 +114,11 @@ module _ {M : Type 1} {𝓤 : Ura M} (𝓛 : Logic 𝓤) (mem : Memory → SProp
       × Says numbers.is_plain.ended (numbers.is_plain.clauses 𝓛 mem run) (λ _ (x, _) r _. IsPlain x r)
       × Says numbers.plain_squares.ended (numbers.plain_squares.clauses 𝓛 mem run) (λ _ (least, (most, _)) r _. PlainSquares least most r)
       × Says numbers.rounded.ended (numbers.rounded.clauses 𝓛 mem run) (λ _ (x, _) r _. Rounded x r)
-      × Says numbers.from_bits.ended (numbers.from_bits.clauses 𝓛 mem run) (λ _ (b, _) r _. FromBits b r)
+      × Says f64.from_bits.ended (f64.from_bits.clauses 𝓛 mem run) (λ _ (b, _) r _. FromBits b r)
+      × Says f32.from_bits.ended (f32.from_bits.clauses 𝓛 mem run) (λ _ (b, _) r _. FromBits32 b r)
       × Says numbers.from_bits32.ended (numbers.from_bits32.clauses 𝓛 mem run) (λ _ (b, _) r _. FromBits32 b r)
-      × Says numbers.to_bits.ended (numbers.to_bits.clauses 𝓛 mem run) (λ _ (x, _) r _. ToBits x r)
+      × Says f64.to_bits.ended (f64.to_bits.clauses 𝓛 mem run) (λ _ (x, _) r _. ToBits x r)
+      × Says f32.to_bits.ended (f32.to_bits.clauses 𝓛 mem run) (λ _ (x, _) r _. ToBits32 x r)
       × Says numbers.to_bits32.ended (numbers.to_bits32.clauses 𝓛 mem run) (λ _ (x, _) r _. ToBits32 x r)
       × Says narrow_list.narrow_into.ended (narrow_list.narrow_into.clauses 𝓛 mem run)
       (λ _ (xs, (out, _)) r (_, (out', _)). NarrowInto xs.now out.now r out'.now)

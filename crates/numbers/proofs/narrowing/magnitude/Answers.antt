@@ -12,8 +12,8 @@ returns-then-exponent-lt873 c = record {
 
 pub half_even-requires : goal.half_even-requires
 half_even-requires c = record {
-  fact_1 = subst (λ (z : ℕ). 0 < z) (sym (unit-is c.args.exponent c.if-exponent-lt873.false)) (pow_pos (926 - c.args.exponent));
-  fact_2 = omega arith;
+  unit_positive = subst (λ (z : ℕ). 0 < z) (sym (unit-is c.args.exponent c.if-exponent-lt873.false)) (pow_pos (926 - c.args.exponent));
+  digits_53 = omega arith;
 }
 
 pub returns-then-exponent-lt897 : goal.returns-then-exponent-lt897

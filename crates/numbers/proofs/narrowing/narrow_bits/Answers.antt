@@ -4,4 +4,4 @@ use lib.Ieee.{binary32, to_bits}
 use Rattle.numbers.proofs.narrowing.narrow_bits.Goals as goal
 
 pub returns : goal.returns
-returns c = c.to_bits32.ensures ∙ ap (to_bits binary32) c.narrow.ensures
+returns c = c.to_bits.ensures ∙ ap (to_bits binary32) c.narrow.ensures

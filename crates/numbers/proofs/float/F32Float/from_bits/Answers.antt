@@ -1,8 +1,8 @@
--- `numbers::from_bits32` meets its contract: with the sign's bit taken off, a NaN's pattern is a number above the infinity's. Assumes nothing.
+-- `numbers::Float::from_bits` of f32 meets its contract: with the sign's bit taken off, a NaN's pattern is a number above the infinity's. Assumes nothing.
 use Rattle.std.proofs.Common.{sym}
 use lib.Ieee.{binary32, div, of_bits}
 use Rattle.numbers.proofs.Tests.{bits-nan, bits-no-nan}
-use Rattle.numbers.proofs.bits.from_bits32.Goals as goal
+use Rattle.numbers.proofs.float.F32Float.from_bits.Goals as goal
 
 pub returns-then-b-gt2139095040 : goal.returns-then-b-gt2139095040
 unfolding div of_bits
