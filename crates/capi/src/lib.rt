@@ -53,27 +53,27 @@ pub fn aspeyruni_narrow_list(xs: &[f64], out: &mut [f32]) -> usize
 pub fn aspeyruni_forward(input: &[f32], out: &mut [f64]) -> u32
     ensures { Forward input.now out.old result out.new }
 {
-    fft::forward(input, out)
+    number(&fft::forward(input, out))
 }
 
 // 514 numbers to 512 samples. 0, or 2 with nothing written where a length is wrong; and how many of the samples went over.
 pub fn aspeyruni_inverse(spectrum: &[f64], out: &mut [f32]) -> Inverted
     ensures { Inverse spectrum.now out.old result out.new }
 {
-    fft::inverse(spectrum, out)
+    Inverted::from(fft::inverse(spectrum, out))
 }
 
 // 256 points in place, 512 numbers. 0, or 2 with nothing written where the length is wrong.
 pub fn aspeyruni_complex_forward(points: &mut [f64]) -> u32
     ensures { ComplexForward points.old result points.new }
 {
-    complex_fft::complex_forward(points)
+    number(&complex_fft::complex_forward(points))
 }
 
 pub fn aspeyruni_complex_inverse(points: &mut [f64]) -> u32
     ensures { ComplexInverse points.old result points.new }
 {
-    complex_fft::complex_inverse(points)
+    number(&complex_fft::complex_inverse(points))
 }
 
 pub fn aspeyruni_rho_create(

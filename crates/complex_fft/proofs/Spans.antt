@@ -1,11 +1,10 @@
 -- The bounds that every span shares, where half * stride is 128. Assumes nothing.
 --     place     a twiddle's place in the table
 --     room      a block ends within the 256 points
---     halves, doubles, quarters     the eight spans have such a half and stride, and how each follows from the one before
+--     halves      the eight spans have such a half and stride
 use mathlib.Core.Path.{◌≡◌}
 use Prim.Native.Nat.{ℕ, zero, suc, ◌+◌, ◌*◌, ◌/◌, ◌^◌, ◌<◌, ◌≤◌}
-use native.Mathlib.Nat.{mul-le-mul_right, suc-mul, mul-zero, mul_comm, mul_assoc, pow-suc, pow-succ', div-div-eq-div-mul}
-use native.Mathlib.Numerals.{add-one}
+use native.Mathlib.Nat.{mul-le-mul_right, suc-mul, mul-zero, mul_comm, mul_assoc}
 use native.Mathlib.Omega.{arith}
 use lib.Dec.{eqb, eqb→eq}
 use Rattle.laws.specs.Tables.{at-below}
@@ -20,9 +19,3 @@ room b half stride h e =
 
 pub halves : (k : ℕ) → k < 8 → 2 ^ k * (128 / 2 ^ k) ≡ 128
 halves k h = eqb→eq (2 ^ k * (128 / 2 ^ k)) 128 (at-below (λ j. eqb (2 ^ j * (128 / 2 ^ j)) 128) 8 k tt h)
-
-pub doubles : (k : ℕ) → 2 * 2 ^ k ≡ 2 ^ (k + 1)
-doubles k = rw (add-one, pow-succ')
-
-pub quarters : (k : ℕ) → 128 / 2 ^ k / 2 ≡ 128 / 2 ^ (k + 1)
-quarters k = rw (add-one, pow-suc, div-div-eq-div-mul)

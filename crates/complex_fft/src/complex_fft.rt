@@ -1,13 +1,15 @@
 // `ComplexFft` for 256 points, in place over 512 numbers: the swap pass, eight stages of butterflies, and for the inverse 1/256.
 // The functions that take a twiddle table are right for any table: their meaning is stated over it.
-ghost use Rattle.std.specs.Prelude.{◌≡◌, ◌+◌, ◌*◌, ◌≤◌, ◌<◌, length};
+ghost use Rattle.std.specs.Prelude.{◌≡◌, ◌+◌, ◌*◌, ◌≤◌, ◌<◌};
+ghost use Rattle.refusal.specs.Refusal.{number_in};
+ghost use Rattle.complex_fft.specs.Calls.{complex_of};
 ghost use Rattle.complex_fft.specs.ComplexFft.{swap_at, permuted, butterfly_at, twiddle_of, block_at, stage_at, stages, scaled, run_of};
 ghost use Rattle.complex_fft.specs.Promises.{ComplexForward, ComplexInverse, Butterfly};
 
 use crate::points::{get, put};
 use crate::reversal::reversal_table;
-use crate::{DONE, WRONG_LENGTH};
 use complex::Complex;
+use refusal::Refusal;
 
 // What a butterfly gives.
 #[derive(Clone, Copy)]
@@ -16,8 +18,9 @@ pub struct Wings {
     pub lower: Complex,
 }
 
-fn swap(s: &mut [f64], i: usize, j: usize)
-    requires { (2 * i + 1 < length s.old) × (2 * j + 1 < length s.old) }
+#[tactic(auto, unfolding(crate::specs::ComplexFft::swap_at))]
+fn swap(s: &mut [f64; 512], i: usize, j: usize)
+    requires { (i < 256) × (j < 256) }
     ensures { s.new ≡ swap_at s.old i j }
 {
     let a = get(s, i);
@@ -27,13 +30,12 @@ fn swap(s: &mut [f64], i: usize, j: usize)
 }
 
 // Each pair once, from its lower place.
-fn permute(s: &mut [f64], table: &[u8])
-    requires s_len { length s.old ≡ 512 }
-    requires table_len { length table.now ≡ 256 }
+#[tactic(auto, using(laws::specs::Loops::loops), unfolding(crate::specs::ComplexFft::permuted, crate::specs::ComplexFft::swap_step, laws::specs::Choice::pick))]
+fn permute(s: &mut [f64; 512], table: &[u8; 256])
     ensures { s.new ≡ permuted table.now s.old }
 {
     for i in 0..256 {
-        let j = table[i] as usize;
+        let j = usize::from(table[i]);
         if i < j {
             swap(s, i, j);
         }
@@ -43,42 +45,45 @@ fn permute(s: &mut [f64], table: &[u8])
 pub fn butterfly(u: Complex, v: Complex, twiddle: Complex) -> Wings
     ensures { Butterfly u v twiddle result }
 {
-    let turned = twiddle.mul(v);
+    let turned = twiddle * v;
     Wings {
-        upper: u.add(turned),
-        lower: u.sub(turned),
+        upper: u + turned,
+        lower: u - turned,
     }
 }
 
 // The butterfly of the numbers at i and half further on.
-fn butterfly_at(s: &mut [f64], i: usize, half: usize, twiddle: Complex)
-    requires { 2 * (i + half) + 1 < length s.old }
+#[tactic(auto, unfolding(crate::specs::ComplexFft::butterfly_at))]
+fn butterfly_at(s: &mut [f64; 512], i: usize, half: usize, twiddle: Complex)
+    requires { i + half < 256 }
     ensures { s.new ≡ butterfly_at twiddle i half s.old }
 {
     let wings = butterfly(get(s, i), get(s, i + half), twiddle);
-    let upper = wings.upper;
-    let lower = wings.lower;
-    put(s, i, upper);
-    put(s, i + half, lower);
+    put(s, i, wings.upper);
+    put(s, i + half, wings.lower);
 }
 
 // Twiddle r is entry 2r of the recombination table, conjugated for the inverse.
-pub fn twiddle_at(table: &[f64], r: usize, inverse: bool) -> Complex
-    requires { 4 * r + 1 < length table.now }
+#[tactic(auto, unfolding(crate::specs::ComplexFft::twiddle_of, laws::specs::Choice::pick))]
+pub fn twiddle_at(table: &[f64; 514], r: usize, inverse: bool) -> Complex
+    requires { r ≤ 128 }
     ensures { result ≡ twiddle_of table.now inverse r }
 {
     let z = get(table, 2 * r);
-    if inverse {
-        return z.conj();
-    }
-    z
+    if inverse { z.conj() } else { z }
 }
 
 // The butterflies of one block.
-fn block(s: &mut [f64], table: &[f64], base: usize, half: usize, stride: usize, inverse: bool)
-    requires s_len { length s.old ≡ 512 }
-    requires table_len { length table.now ≡ 514 }
-    requires half_bound { base + 2 * half ≤ 256 }
+#[tactic(auto, using(crate::proofs::Spans::place, laws::specs::Loops::loops), unfolding(crate::specs::ComplexFft::block_at))]
+fn block(
+    s: &mut [f64; 512],
+    table: &[f64; 514],
+    base: usize,
+    half: usize,
+    stride: usize,
+    inverse: bool,
+)
+    requires block_end { base + 2 * half ≤ 256 }
     requires stride_value { half * stride ≡ 128 }
     ensures { s.new ≡ block_at table.now inverse half stride base s.old }
 {
@@ -89,10 +94,9 @@ fn block(s: &mut [f64], table: &[f64], base: usize, half: usize, stride: usize, 
 }
 
 // The blocks of one stage.
-fn stage(s: &mut [f64], table: &[f64], half: usize, stride: usize, inverse: bool)
-    requires s_len { length s.old ≡ 512 }
-    requires table_len { length table.now ≡ 514 }
-    requires stride_value { half * stride ≡ 128 }
+#[tactic(auto, using(crate::proofs::Spans::room, laws::specs::Loops::loops), unfolding(crate::specs::ComplexFft::stage_at))]
+fn stage(s: &mut [f64; 512], table: &[f64; 514], half: usize, stride: usize, inverse: bool)
+    requires { half * stride ≡ 128 }
     ensures { s.new ≡ stage_at table.now inverse half stride s.old }
 {
     for b in 0..stride {
@@ -101,23 +105,18 @@ fn stage(s: &mut [f64], table: &[f64], half: usize, stride: usize, inverse: bool
 }
 
 // The stages, the span doubling from 2 up to 256.
-fn all_stages(s: &mut [f64], table: &[f64], inverse: bool)
-    requires s_len { length s.old ≡ 512 }
-    requires table_len { length table.now ≡ 514 }
+#[tactic(auto, using(crate::proofs::Spans::halves, laws::specs::Loops::loops), unfolding(crate::specs::ComplexFft::stages))]
+fn all_stages(s: &mut [f64; 512], table: &[f64; 514], inverse: bool)
     ensures { s.new ≡ stages table.now inverse s.old }
 {
-    let mut half: usize = 1;
-    let mut stride: usize = 128;
     for k in 0..8u32 {
-        stage(s, table, half, stride, inverse);
-        half = 2 * half;
-        stride = stride / 2;
+        stage(s, table, 1 << k, 128 >> k, inverse);
     }
 }
 
 // The inverse carries the whole 1/256.
-fn scale_all(s: &mut [f64])
-    requires { length s.old ≡ 512 }
+#[tactic(auto, using(laws::specs::Loops::loops), unfolding(crate::specs::ComplexFft::scaled))]
+fn scale_all(s: &mut [f64; 512])
     ensures { s.new ≡ scaled s.old }
 {
     for i in 0..256 {
@@ -126,10 +125,8 @@ fn scale_all(s: &mut [f64])
     }
 }
 
-fn run(s: &mut [f64], table: &[f64], reversal: &[u8], inverse: bool)
-    requires s_len { length s.old ≡ 512 }
-    requires table_len { length table.now ≡ 514 }
-    requires reversal_len { length reversal.now ≡ 256 }
+#[tactic(auto, unfolding(crate::specs::ComplexFft::run_of, laws::specs::Choice::pick))]
+fn run(s: &mut [f64; 512], table: &[f64; 514], reversal: &[u8; 256], inverse: bool)
     ensures { s.new ≡ run_of table.now reversal.now inverse s.old }
 {
     permute(s, reversal);
@@ -139,28 +136,27 @@ fn run(s: &mut [f64], table: &[f64], reversal: &[u8], inverse: bool)
     }
 }
 
-// 256 points, real part then imaginary, in place. 0, or 2 with nothing written where there are not 512 numbers.
-pub fn complex_forward(points: &mut [f64]) -> u32
-    ensures { ComplexForward points.old result points.new }
+// 256 points, real part then imaginary, in place. Refused, with nothing written, where there are not 512 numbers.
+#[tactic(auto, using(laws::specs::Choice::choices), unfolding(crate::specs::Calls::complex_of, laws::specs::Choice::pick))]
+fn transform(points: &mut [f64], inverse: bool) -> Result<(), Refusal>
+    ensures { record { answer = number_in result; out = points.new } ≡ complex_of inverse points.old }
 {
-    if points.len() != 512 {
-        return WRONG_LENGTH;
-    }
+    let points: &mut [f64; 512] = points.as_mut_array().ok_or(Refusal::WrongLength)?;
     let table = trig::recombination();
     let reversal = reversal_table();
-    run(points, &table, &reversal, false);
-    DONE
+    run(points, &table, &reversal, inverse);
+    Ok(())
+}
+
+pub fn complex_forward(points: &mut [f64]) -> Result<(), Refusal>
+    ensures { ComplexForward points.old (number_in result) points.new }
+{
+    transform(points, false)
 }
 
 // The inverse, its 1/256 included.
-pub fn complex_inverse(points: &mut [f64]) -> u32
-    ensures { ComplexInverse points.old result points.new }
+pub fn complex_inverse(points: &mut [f64]) -> Result<(), Refusal>
+    ensures { ComplexInverse points.old (number_in result) points.new }
 {
-    if points.len() != 512 {
-        return WRONG_LENGTH;
-    }
-    let table = trig::recombination();
-    let reversal = reversal_table();
-    run(points, &table, &reversal, true);
-    DONE
+    transform(points, true)
 }

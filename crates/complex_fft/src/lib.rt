@@ -8,8 +8,3 @@ mod reversal;
 
 pub use complex_fft::{Wings, butterfly, complex_forward, complex_inverse, twiddle_at};
 pub use reversal::reversal_table;
-
-// The answers: 0, and refusal 2, a lent buffer that has not exactly the needed length.
-pub const DONE: u32 = 0;
-
-pub const WRONG_LENGTH: u32 = 2;

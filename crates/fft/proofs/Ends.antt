@@ -15,6 +15,7 @@ use Rattle.complex_fft.specs.Reversal.{reversal_table}
 use Rattle.self_sorting.specs.Passes.{loaded, points_of, passes}
 use Rattle.self_sorting.proofs.Sorting.{forward-run}
 use Rattle.fft.specs.RealFft.{bin_from, bin_of, bins_of, half_of, halves_of, spectrum_with}
+use Rattle.fft.specs.Parts.{half_from}
 
 -- a loop may start where the first number is put already
 pub over2-first : (f g : ℕ → Float) (e : List Float) → 2 ≤ length e
@@ -24,9 +25,14 @@ over2-first f g [] h = absurd (omega arith)
 over2-first f g (x ∷ []) h = absurd (omega arith)
 over2-first f g (x ∷ y ∷ e) h = refl
 
-pub halves-at : (t x : List Float) (i : ℕ) → i < 256 → get_c (halves_of t x) i ≡ half_of t x i
+halves-at : (t x : List Float) (i : ℕ) → i < 256 → get_c (halves_of t x) i ≡ half_of t x i
 unfolding halves_of
 halves-at t x i h = let a = table2-at 256 (λ k. (half_of t x k).re) (λ k. (half_of t x k).im) i nan h in rw (a.0, a.1)
+
+-- and of the three numbers that it is made of
+pub from_halves : (t x : List Float) (i : ℕ) → i < 256 → get_c (halves_of t x) i ≡ half_from (get_c x i) (get_c x (256 - i)) (get_c t i)
+unfolding half_of half_from
+from_halves t x i h = halves-at t x i h
 
 points-at : (z : List Float) (i : ℕ) → i < 256 → get_s z i ≡ get_c (points_of z) i
 unfolding points_of

@@ -1,4 +1,4 @@
--- The inverse's points of three numbers, for the code of parts alone: `half_of` takes them from two lists.
+-- The inverse's points of three numbers: `half_of` takes them from two lists (proofs/Ends).
 use Rattle.std.specs.Float.{binary64}
 use Rattle.std.specs.Float.Ieee.{add, sub}
 use Rattle.complex.specs.declared.Complex.{Complex}

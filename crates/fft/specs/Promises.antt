@@ -1,6 +1,8 @@
 -- What each public function promises: what it is given, then its answer, then what the buffer for the result holds after. The contracts
 -- cite these names, and crate promises proves that each admits one answer (Answers).
-use Rattle.std.specs.Prelude.{◌≡◌, Bool, List, ℕ, Float}
+use Rattle.std.specs.Prelude.{◌≡◌, Bool, List, ℕ, Float, Result, Ok, Err}
+use Rattle.refusal.specs.declared.Refusal.{Refusal}
+use Rattle.refusal.specs.Refusal.{number_of}
 use Rattle.fft.specs.declared.real_fft.Inverted.{Inverted}
 use Rattle.fft.specs.Calls.{forward_of, inverse_of, forward_with_of, inverse_with_of, half_with_of}
 
@@ -24,3 +26,8 @@ InverseHalfWith t scratch x later out r after = record { answer = r.refusal; ove
 -- What these three promise of the scratch besides: a refused call leaves it as it was. What an accepted one leaves there is open.
 abbrev pub RefusedKeeps : List Float → ℕ → List Float → Type 0
 RefusedKeeps scratch r after = r ≡ 2 → after ≡ scratch
+
+-- an inverse's answer as C has it: its number, and how many samples went over, 0 where it is refused
+abbrev pub inverted_of : Result ℕ Refusal → Inverted
+inverted_of (Ok overs) = record { refusal = 0; overs = overs }
+inverted_of (Err refusal) = record { refusal = number_of refusal; overs = 0 }

@@ -1,8 +1,10 @@
 // The real transform of 512 samples, both ways, as `RealFft` in fft.rs has it.
 #![tactic(auto)]
 
-mod parts;
+mod bins;
 mod real_fft;
 
-pub use parts::{forward_parts, inverse_half_parts};
-pub use real_fft::{Inverted, forward, forward_with, inverse, inverse_half_with, inverse_with};
+pub use real_fft::{
+    Inverted, forward, forward_parts, forward_with, inverse, inverse_half_parts, inverse_half_with,
+    inverse_with,
+};

@@ -1,26 +1,29 @@
-// `RealFft`: 512 samples to 257 bins and back, over the self-sorting core of the transform of 256 points. The forms that end in `_with`
-// take the table and a scratch from the caller, who lends them once for many transforms; their meaning is stated over any table. What
-// the scratch holds after a transform is nobody's business but the core's.
+// `RealFft`: 512 samples to 257 bins and back, over the self-sorting core of the transform of 256 points. The forms that end in `_with` or
+// `_parts` take the table and a scratch from the caller, who lends them once for many transforms; their meaning is stated over any table.
+// What the scratch holds after a transform is nobody's business but the core's.
 ghost use Rattle.std.specs.Prelude.{◌≡◌, true, false, map, ◌+◌, ◌*◌, ◌-◌, ◌%◌, ◌≤◌, length, take, drop};
+ghost use Rattle.refusal.specs.Refusal.{number_in};
 ghost use Rattle.numbers.specs.Narrowing.{narrow_of};
 ghost use Rattle.narrow_list.specs.Overs.{over_count};
+ghost use Rattle.layout.specs.Layout.{paired};
 ghost use Rattle.complex_fft.specs.ComplexFft.{run_of};
 ghost use Rattle.complex_fft.specs.Reversal.{reversal_table};
 ghost use Rattle.self_sorting.specs.Passes.{loaded, points_of, passes};
-ghost use Rattle.fft.specs.Calls.{lent_of, half_of_samples};
-ghost use Rattle.fft.specs.RealFft.{bin_from, bin_of, bins_of, half_of, halves_of};
+ghost use Rattle.fft.specs.Calls.{half_of_samples};
+ghost use Rattle.fft.specs.RealFft.{bin_from, bin_of, bins_of, halves_of};
+ghost use Rattle.fft.specs.Parts.{half_from};
 ghost use Rattle.fft.specs.Scratch.{scaled_from, points_in};
-ghost use Rattle.fft.specs.Promises.{Forward, Inverse, ForwardWith, InverseWith, InverseHalfWith, RefusedKeeps};
+ghost use Rattle.fft.specs.Promises.{Forward, Inverse, ForwardWith, InverseWith, InverseHalfWith, RefusedKeeps, inverted_of};
 
+use crate::bins::{Bins, Pairs, Parts};
 use complex::Complex;
 use complex_fft::points::{get, put};
-use complex_fft::{DONE, WRONG_LENGTH};
+use refusal::Refusal;
 use self_sorting::{all_passes, get_split, put_split};
 
 // The even samples are the real parts and the odd ones the imaginary: they go straight into the core's scratch.
-pub(crate) fn load_samples(input: &[f32], z: &mut [f64])
-    requires input_len { length input.now ≡ 512 }
-    requires z_len { length z.old ≡ 1024 }
+#[tactic(auto, using(laws::specs::Loops::loops), unfolding(self_sorting::specs::Passes::loaded))]
+fn load_samples(input: &[f32; 512], z: &mut [f64; 1024])
     ensures { z.new ≡ loaded input.now z.old }
 {
     for i in 0..256 {
@@ -30,91 +33,74 @@ pub(crate) fn load_samples(input: &[f32], z: &mut [f64])
     }
 }
 
-// Number k of the half-length spectrum, of the real one.
-fn half_bin(spectrum: &[f64], table: &[f64], k: usize) -> Complex
-    requires spectrum_len { length spectrum.now ≡ 514 }
-    requires table_len { length table.now ≡ 514 }
-    requires k_bound { k ≤ 256 }
-    ensures { result ≡ half_of table.now spectrum.now k }
+// Number k of the half-length spectrum, of bin k of the real one, of the bin at its mirror and of the table's entry k.
+#[tactic(auto, unfolding(crate::specs::Parts::half_from))]
+fn half_from(this: Complex, other: Complex, twiddle: Complex) -> Complex
+    ensures { result ≡ half_from this other twiddle }
 {
-    let x_k = get(spectrum, k);
-    let x_mirror = get(spectrum, 256 - k).conj();
-    let even = x_k.add(x_mirror).scale(0.5);
-    let diff = x_k.sub(x_mirror);
-    let odd = get(table, k).conj().mul(diff).scale(0.5);
+    let mirror = other.conj();
+    let even = (this + mirror).scale(0.5);
+    let odd = (twiddle.conj() * (this - mirror)).scale(0.5);
     Complex::new(even.re - odd.im, even.im + odd.re)
 }
 
 // The half-length spectrum, straight into the core's scratch.
-fn load_halves(spectrum: &[f64], table: &[f64], z: &mut [f64])
-    requires spectrum_len { length spectrum.now ≡ 514 }
-    requires table_len { length table.now ≡ 514 }
-    requires z_len { length z.old ≡ 1024 }
-    ensures { z.new ≡ loaded (halves_of table.now spectrum.now) z.old }
+#[tactic(auto, using(crate::proofs::Ends::from_halves, laws::specs::Loops::loops), unfolding(self_sorting::specs::Passes::loaded))]
+fn load_halves<B: Bins>(spectrum: &[f64; 514], table: &[f64; 514], z: &mut [f64; 1024])
+    ensures { z.new ≡ loaded (halves_of table.now (B.in_pairs spectrum.now)) z.old }
 {
     for i in 0..256 {
-        let c = half_bin(spectrum, table, i);
-        put_split(z, i, c);
+        let this = B::get(spectrum, i);
+        let other = B::get(spectrum, 256 - i);
+        put_split(z, i, half_from(this, other, get(table, i)));
     }
 }
 
 // Bin k of the real spectrum, of number k of the half-length one, of the number at its mirror and of the table's entry k.
+#[tactic(auto, unfolding(crate::specs::RealFft::bin_from))]
 fn bin_from(this: Complex, other: Complex, twiddle: Complex) -> Complex
     ensures { result ≡ bin_from this other twiddle }
 {
     let mirror = other.conj();
-    let even = this.add(mirror).scale(0.5);
-    let diff = this.sub(mirror);
+    let even = (this + mirror).scale(0.5);
+    let diff = this - mirror;
     let odd = Complex::new(0.5 * diff.im, -0.5 * diff.re);
-    even.add(twiddle.mul(odd))
+    even + twiddle * odd
 }
 
 // Bin k of the transformed points in the scratch. The places are the caller's, so that none of them is computed by a remainder.
-pub(crate) fn bin(z: &[f64], table: &[f64], k: usize, here: usize, mirror: usize) -> Complex
-    requires z_len { length z.now ≡ 1024 }
-    requires table_len { length table.now ≡ 514 }
+fn bin(z: &[f64; 1024], table: &[f64; 514], k: usize, here: usize, mirror: usize) -> Complex
     requires k_bound { k ≤ 256 }
-    requires here_value { (here ≡ k % 256) × (mirror ≡ (256 - k) % 256) }
+    requires places { (here ≡ k % 256) × (mirror ≡ (256 - k) % 256) }
     ensures { result ≡ bin_of table.now (points_of z.now) k }
 {
-    let this = get_split(z, here);
-    let other = get_split(z, mirror);
-    bin_from(this, other, get(table, k))
+    bin_from(get_split(z, here), get_split(z, mirror), get(table, k))
 }
 
 // The two ends apart: between them no place wraps around.
-fn recombine(z: &[f64], table: &[f64], out: &mut [f64])
-    requires z_len { length z.now ≡ 1024 }
-    requires table_len { length table.now ≡ 514 }
-    requires out_len { length out.old ≡ 514 }
-    ensures { out.new ≡ bins_of table.now (points_of z.now) }
+fn recombine<B: Bins>(z: &[f64; 1024], table: &[f64; 514], out: &mut [f64; 514])
+    ensures { B.in_pairs out.new ≡ bins_of table.now (points_of z.now) }
 {
-    let first = bin(z, table, 0, 0, 0);
-    put(out, 0, first);
+    B::put(out, 0, bin(z, table, 0, 0, 0));
     for k in 1..256 {
-        let c = bin(z, table, k, k, 256 - k);
-        put(out, k, c);
+        B::put(out, k, bin(z, table, k, k, 256 - k));
     }
-    let last = bin(z, table, 256, 0, 0);
-    put(out, 256, last);
+    B::put(out, 256, bin(z, table, 256, 0, 0));
 }
 
 // The passes and the bins of what was loaded. The samples are not seen here: a window that goes into a large function by reference
 // would cost its owner a copy.
-fn transform_loaded(z: &mut [f64], table: &[f64], out: &mut [f64])
-    requires z_len { length z.old ≡ 1024 }
-    requires table_len { length table.now ≡ 514 }
-    requires out_len { length out.old ≡ 514 }
-    ensures { out.new ≡ bins_of table.now (points_of (passes table.now false z.old)) }
+fn transform_loaded<B: Bins>(z: &mut [f64; 1024], table: &[f64; 514], out: &mut [f64; 514])
+    ensures { B.in_pairs out.new ≡ bins_of table.now (points_of (passes table.now false z.old)) }
 {
     all_passes(z, table, false);
-    recombine(z, table, out);
+    recombine::<B>(z, table, out);
 }
 
 // n points from `first` on times 1/256, which the inverse carries whole, part by part into the scratch's second half.
-fn scale_points(z: &mut [f64], first: usize, n: usize)
-    requires z_len { length z.old ≡ 1024 }
-    requires n_bound { first + n ≤ 256 }
+#[tactic(auto, using(laws::specs::Loops::loops), unfolding(crate::specs::Scratch::scaled_from))]
+fn scale_points(z: &mut [f64; 1024], first: usize, n: usize)
+    requires { first + n ≤ 256 }
     ensures { z.new ≡ scaled_from first n z.old }
 {
     for i in 0..n {
@@ -124,20 +110,17 @@ fn scale_points(z: &mut [f64], first: usize, n: usize)
 }
 
 // The points of the inverse, not yet scaled, into the scratch's first half.
-fn load_points(z: &mut [f64], table: &[f64], spectrum: &[f64])
-    requires z_len { length z.old ≡ 1024 }
-    requires table_len { length table.now ≡ 514 }
-    requires spectrum_len { length spectrum.now ≡ 514 }
-    ensures { points_in z.new ≡ run_of table.now reversal_table true (halves_of table.now spectrum.now) }
+fn load_points<B: Bins>(z: &mut [f64; 1024], table: &[f64; 514], spectrum: &[f64; 514])
+    ensures { points_in z.new ≡ run_of table.now reversal_table true (halves_of table.now (B.in_pairs spectrum.now)) }
 {
-    load_halves(spectrum, table, z);
+    load_halves::<B>(spectrum, table, z);
     all_passes(z, table, true);
 }
 
 // The samples of n points from `first` on: only these are narrowed. How many of them went over.
-fn samples_at(z: &mut [f64], first: usize, n: usize, out: &mut [f32]) -> usize
-    requires z_len { length z.old ≡ 1024 }
-    requires n_bound { (first + n ≤ 256) × (length out.old ≡ 2 * n) }
+fn samples_at(z: &mut [f64; 1024], first: usize, n: usize, out: &mut [f32]) -> usize
+    requires within { first + n ≤ 256 }
+    requires out_len { length out.old ≡ 2 * n }
     ensures out_after { out.new ≡ take (2 * n) (drop (2 * first) (map narrow_of (points_in z.old))) }
     ensures value { result ≡ over_count (take (2 * n) (drop (2 * first) (points_in z.old))) }
 {
@@ -147,9 +130,8 @@ fn samples_at(z: &mut [f64], first: usize, n: usize, out: &mut [f32]) -> usize
 }
 
 // How many samples of n points from `first` on would go over, where nobody needs them: they are looked at where they stand.
-fn overs_at(z: &[f64], first: usize, n: usize) -> usize
-    requires z_len { length z.now ≡ 1024 }
-    requires n_bound { first + n ≤ 256 }
+fn overs_at(z: &[f64; 1024], first: usize, n: usize) -> usize
+    requires { first + n ≤ 256 }
     ensures { result ≡ over_count (take (2 * n) (drop (2 * first) (points_in z.now))) }
 {
     let end = first + n;
@@ -161,39 +143,16 @@ fn overs_at(z: &[f64], first: usize, n: usize) -> usize
 }
 
 // The first or the later half of the samples. How many of all went over.
-pub(crate) fn half_at(z: &mut [f64], later: bool, half: &mut [f32]) -> usize
-    requires z_len { length z.old ≡ 1024 }
-    requires half_len { length half.old ≡ 256 }
+fn half_at(z: &mut [f64; 1024], later: bool, half: &mut [f32; 256]) -> usize
     ensures half_after { half.new ≡ half_of_samples later (map narrow_of (points_in z.old)) }
     ensures value { result ≡ over_count (points_in z.old) }
 {
-    if later {
-        let dropped = overs_at(z, 0, 128);
-        return dropped + samples_at(z, 128, 128, half);
-    }
-    let dropped = overs_at(z, 128, 128);
-    dropped + samples_at(z, 0, 128, half)
+    let (given, dropped) = if later { (128, 0) } else { (0, 128) };
+    let overs = overs_at(z, dropped, 128);
+    overs + samples_at(z, given, 128, half)
 }
 
-// 512 samples to 257 bins. 0, or 2 with nothing written where a length is wrong.
-pub fn forward(input: &[f32], out: &mut [f64]) -> u32
-    ensures { Forward input.now out.old result out.new }
-{
-    if input.len() != 512 {
-        return WRONG_LENGTH;
-    }
-    if out.len() != 514 {
-        return WRONG_LENGTH;
-    }
-    let table = trig::recombination();
-    let zero = Complex::ZERO;
-    let mut scratch = [zero.re; 1024];
-    load_samples(input, &mut scratch);
-    transform_loaded(&mut scratch, &table, out);
-    DONE
-}
-
-// What an inverse answers: 0, or 2 with nothing written where a length is wrong; and how many of its 512 samples went over.
+// What an inverse answers to C: 0, or 2 with nothing written where a length is wrong; and how many of its 512 samples went over.
 #[repr(C)]
 #[derive(Clone, Copy)]
 pub struct Inverted {
@@ -201,90 +160,121 @@ pub struct Inverted {
     pub overs: usize,
 }
 
-pub(crate) fn refused() -> Inverted
-    ensures { result ≡ record { refusal = 2; overs = 0 } }
-{
-    Inverted {
-        refusal: WRONG_LENGTH,
-        overs: 0,
+impl From<Result<usize, Refusal>> for Inverted {
+    ghost from_gives = { λ answer inverted. inverted ≡ inverted_of answer };
+
+    fn from(answer: Result<usize, Refusal>) -> Inverted {
+        match answer {
+            Ok(overs) => Inverted { refusal: 0, overs },
+            Err(refusal) => Inverted {
+                refusal: u32::from(refusal),
+                overs: 0,
+            },
+        }
     }
 }
 
-// 257 bins to 512 samples.
-pub fn inverse(spectrum: &[f64], out: &mut [f32]) -> Inverted
-    ensures { Inverse spectrum.now out.old result out.new }
+// 512 samples to 257 bins. Refused, with nothing written, where a length is wrong.
+pub fn forward(input: &[f32], out: &mut [f64]) -> Result<(), Refusal>
+    ensures { Forward input.now out.old (number_in result) out.new }
 {
-    if spectrum.len() != 514 {
-        return refused();
-    }
-    if out.len() != 512 {
-        return refused();
-    }
     let table = trig::recombination();
-    let zero = Complex::ZERO;
-    let mut scratch = [zero.re; 1024];
-    load_points(&mut scratch, &table, spectrum);
-    let overs = samples_at(&mut scratch, 0, 256, out);
-    Inverted {
-        refusal: DONE,
-        overs,
-    }
+    let mut scratch = [0.0; 1024];
+    forward_with(&table, &mut scratch, input, out)
 }
 
-// Whether the table has the needed length and the scratch 1,024 numbers, two halves for the core to work between.
-pub(crate) fn lent(table: &[f64], scratch: &[f64]) -> bool
-    ensures { result ≡ lent_of table.now scratch.now }
+// 257 bins to 512 samples. How many of them went over.
+pub fn inverse(spectrum: &[f64], out: &mut [f32]) -> Result<usize, Refusal>
+    ensures { Inverse spectrum.now out.old (inverted_of result) out.new }
 {
-    if table.len() != 514 {
-        return false;
-    }
-    scratch.len() == 1024
+    let table = trig::recombination();
+    let mut scratch = [0.0; 1024];
+    inverse_with(&table, &mut scratch, spectrum, out)
+}
+
+// `forward` over a lent table and scratch, its bins as B has them.
+#[tactic(auto, using(laws::specs::Choice::choices), unfolding(crate::specs::Calls::forward_with_of, crate::specs::Calls::lent_of, laws::specs::Choice::pick))]
+fn forward_as<B: Bins>(
+    table: &[f64],
+    scratch: &mut [f64],
+    samples: &[f32],
+    bins: &mut [f64],
+) -> Result<(), Refusal>
+    ensures forward_with { ForwardWith table.now scratch.old samples.now (B.in_pairs bins.old) (number_in result) (B.in_pairs bins.new) }
+    ensures refused_keeps { RefusedKeeps scratch.old (number_in result) scratch.new }
+{
+    let table: &[f64; 514] = table.try_into()?;
+    let z: &mut [f64; 1024] = scratch.as_mut_array().ok_or(Refusal::WrongLength)?;
+    let samples: &[f32; 512] = samples.try_into()?;
+    let bins: &mut [f64; 514] = bins.as_mut_array().ok_or(Refusal::WrongLength)?;
+    load_samples(samples, z);
+    transform_loaded::<B>(z, table, bins);
+    Ok(())
 }
 
 // `forward` over a lent table and scratch.
-pub fn forward_with(table: &[f64], scratch: &mut [f64], samples: &[f32], bins: &mut [f64]) -> u32
-    ensures forward_with { ForwardWith table.now scratch.old samples.now bins.old result bins.new }
-    ensures refused_keeps { RefusedKeeps scratch.old result scratch.new }
+pub fn forward_with(
+    table: &[f64],
+    scratch: &mut [f64],
+    samples: &[f32],
+    bins: &mut [f64],
+) -> Result<(), Refusal>
+    ensures forward_with { ForwardWith table.now scratch.old samples.now bins.old (number_in result) bins.new }
+    ensures refused_keeps { RefusedKeeps scratch.old (number_in result) scratch.new }
 {
-    if !lent(table, scratch) {
-        return WRONG_LENGTH;
-    }
-    if samples.len() != 512 {
-        return WRONG_LENGTH;
-    }
-    if bins.len() != 514 {
-        return WRONG_LENGTH;
-    }
-    load_samples(samples, scratch);
-    transform_loaded(scratch, table, bins);
-    DONE
+    forward_as::<Pairs>(table, scratch, samples, bins)
+}
+
+// `forward_with`, its bins by parts.
+pub fn forward_parts(
+    table: &[f64],
+    scratch: &mut [f64],
+    samples: &[f32],
+    bins: &mut [f64],
+) -> Result<(), Refusal>
+    ensures forward_with { ForwardWith table.now scratch.old samples.now (paired bins.old) (number_in result) (paired bins.new) }
+    ensures refused_keeps { RefusedKeeps scratch.old (number_in result) scratch.new }
+{
+    forward_as::<Parts>(table, scratch, samples, bins)
 }
 
 // `inverse` over a lent table and scratch.
+#[tactic(auto, using(laws::specs::Choice::choices), unfolding(crate::specs::Calls::inverse_with_of, crate::specs::Calls::lent_of, laws::specs::Choice::pick))]
 pub fn inverse_with(
     table: &[f64],
     scratch: &mut [f64],
     source: &[f64],
     target: &mut [f32],
-) -> Inverted
-    ensures inverse_with { InverseWith table.now scratch.old source.now target.old result target.new }
-    ensures refused_keeps { RefusedKeeps scratch.old result.refusal scratch.new }
+) -> Result<usize, Refusal>
+    ensures inverse_with { InverseWith table.now scratch.old source.now target.old (inverted_of result) target.new }
+    ensures refused_keeps { RefusedKeeps scratch.old (number_in result) scratch.new }
 {
-    if !lent(table, scratch) {
-        return refused();
-    }
-    if source.len() != 514 {
-        return refused();
-    }
-    if target.len() != 512 {
-        return refused();
-    }
-    load_points(scratch, table, source);
-    let overs = samples_at(scratch, 0, 256, target);
-    Inverted {
-        refusal: DONE,
-        overs,
-    }
+    let table: &[f64; 514] = table.try_into()?;
+    let points: &mut [f64; 1024] = scratch.as_mut_array().ok_or(Refusal::WrongLength)?;
+    let source: &[f64; 514] = source.try_into()?;
+    let target: &mut [f32; 512] = target.as_mut_array().ok_or(Refusal::WrongLength)?;
+    load_points::<Pairs>(points, table, source);
+    Ok(samples_at(points, 0, 256, target))
+}
+
+// The first or the later 256 samples of the inverse, over a lent table and scratch and of bins as B has them.
+#[tactic(auto, using(laws::specs::Choice::choices), unfolding(crate::specs::Calls::half_with_of, crate::specs::Calls::lent_of, laws::specs::Choice::pick))]
+fn half_as<B: Bins>(
+    table: &[f64],
+    scratch: &mut [f64],
+    source: &[f64],
+    later: bool,
+    half: &mut [f32],
+) -> Result<usize, Refusal>
+    ensures inverse_half_with { InverseHalfWith table.now scratch.old (B.in_pairs source.now) later half.old (inverted_of result) half.new }
+    ensures refused_keeps { RefusedKeeps scratch.old (number_in result) scratch.new }
+{
+    let table: &[f64; 514] = table.try_into()?;
+    let points: &mut [f64; 1024] = scratch.as_mut_array().ok_or(Refusal::WrongLength)?;
+    let source: &[f64; 514] = source.try_into()?;
+    let half: &mut [f32; 256] = half.as_mut_array().ok_or(Refusal::WrongLength)?;
+    load_points::<B>(points, table, source);
+    Ok(half_at(points, later, half))
 }
 
 // The first or the later 256 samples of the inverse, over a lent table and scratch: who needs one half pays for one. All 512 are counted.
@@ -294,23 +284,23 @@ pub fn inverse_half_with(
     source: &[f64],
     later: bool,
     half: &mut [f32],
-) -> Inverted
-    ensures inverse_half_with { InverseHalfWith table.now scratch.old source.now later half.old result half.new }
-    ensures refused_keeps { RefusedKeeps scratch.old result.refusal scratch.new }
+) -> Result<usize, Refusal>
+    ensures inverse_half_with { InverseHalfWith table.now scratch.old source.now later half.old (inverted_of result) half.new }
+    ensures refused_keeps { RefusedKeeps scratch.old (number_in result) scratch.new }
 {
-    if !lent(table, scratch) {
-        return refused();
-    }
-    if source.len() != 514 {
-        return refused();
-    }
-    if half.len() != 256 {
-        return refused();
-    }
-    load_points(scratch, table, source);
-    let overs = half_at(scratch, later, half);
-    Inverted {
-        refusal: DONE,
-        overs,
-    }
+    half_as::<Pairs>(table, scratch, source, later, half)
+}
+
+// `inverse_half_with`, of bins by parts.
+pub fn inverse_half_parts(
+    table: &[f64],
+    scratch: &mut [f64],
+    source: &[f64],
+    later: bool,
+    half: &mut [f32],
+) -> Result<usize, Refusal>
+    ensures inverse_half_with { InverseHalfWith table.now scratch.old (paired source.now) later half.old (inverted_of result) half.new }
+    ensures refused_keeps { RefusedKeeps scratch.old (number_in result) scratch.new }
+{
+    half_as::<Parts>(table, scratch, source, later, half)
 }

@@ -11,26 +11,22 @@ pub fn make(line: &[u8], out: &mut [f64])
     let a = cases::field(line, 0);
     let b = cases::field(line, 1);
     let c = cases::field(line, 2);
-    if line[0] < b'a' {
+    if line[0].is_ascii_uppercase() {
         let step = numbers::from_bits(a);
         tone(step, numbers::from_bits(b), numbers::from_bits(c), out);
         return;
     }
     cases::noise(a, b, c, out);
     let place = cases::field(line, 3) as usize;
-    if place < out.len() {
-        let x = numbers::from_bits(cases::field(line, 4));
-        out[place] = x;
+    if let Some(number) = out.get_mut(place) {
+        *number = numbers::from_bits(cases::field(line, 4));
     }
 }
 
 fn tone(c: f64, first: f64, second: f64, out: &mut [f64]) {
-    let mut x = first;
-    let mut y = second;
-    for i in 0..out.len() {
-        out[i] = x;
-        let next = c * y - x;
-        x = y;
-        y = next;
+    let (mut x, mut y) = (first, second);
+    for number in out {
+        *number = x;
+        (x, y) = (y, c * y - x);
     }
 }

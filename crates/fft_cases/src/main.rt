@@ -21,7 +21,7 @@ ghost use Rattle.std.specs.Prelude.{◌≡◌, length};
 use cases::Tally;
 use made::make;
 use std::io::Write;
-use transforms::{Ran, run};
+use transforms::run;
 
 // A letter, twelve times a blank and 16 digits, and the line's end.
 const SIZE: usize = 206;
@@ -142,7 +142,7 @@ fn transformed(line: &[u8]) -> Found
     }
     let mut buffer = [0.0; 1024];
     make(line, &mut buffer);
-    let Ran::Answer(number) = run(line[0], &mut buffer, given, room) else {
+    let Some(number) = run(line[0], &mut buffer, given, room) else {
         return Found::Nothing;
     };
     Found::All(Answer {

@@ -2,24 +2,22 @@
 // bins reads runs of one kind. The definitions read them in pairs, through the map of specs/Layout.
 #![tactic(auto)]
 
-ghost use Rattle.std.specs.Prelude.{◌≡◌, ◌<◌, length};
+ghost use Rattle.std.specs.Prelude.{◌≡◌, ◌<◌};
 ghost use Rattle.complex.specs.Complexes.{get_c, put_c, mul_c};
 ghost use Rattle.layout.specs.Layout.{paired};
 
 use complex::Complex;
 
 // Bin k of a stored spectrum, or of a stored partition.
-pub fn get(s: &[f64], k: usize) -> Complex
-    requires s_len { length s.now ≡ 514 }
-    requires k_bound { k < 257 }
+pub fn get(s: &[f64; 514], k: usize) -> Complex
+    requires { k < 257 }
     ensures { result ≡ get_c (paired s.now) k }
 {
     Complex::new(s[k], s[257 + k])
 }
 
-pub fn put(s: &mut [f64], k: usize, z: Complex)
-    requires s_len { length s.old ≡ 514 }
-    requires k_bound { k < 257 }
+pub fn put(s: &mut [f64; 514], k: usize, z: Complex)
+    requires { k < 257 }
     ensures { paired s.new ≡ put_c (paired s.old) k z }
 {
     s[k] = z.re;
@@ -27,10 +25,9 @@ pub fn put(s: &mut [f64], k: usize, z: Complex)
 }
 
 // Bin k of the weights times bin k of the spectrum that they meet.
-pub fn product(weights: &[f64], spectrum: &[f64], k: usize) -> Complex
-    requires weights_len { (length weights.now ≡ 514) × (length spectrum.now ≡ 514) }
-    requires k_bound { k < 257 }
+pub fn product(weights: &[f64; 514], spectrum: &[f64; 514], k: usize) -> Complex
+    requires { k < 257 }
     ensures { result ≡ mul_c (get_c (paired weights.now) k) (get_c (paired spectrum.now) k) }
 {
-    get(weights, k).mul(get(spectrum, k))
+    get(weights, k) * get(spectrum, k)
 }

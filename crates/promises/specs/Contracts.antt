@@ -33,7 +33,7 @@ use Rattle.complex.specs.Promises.{New, Conj, Add, Sub, Mul, Scale}
 use Rattle.complex_fft.specs.contracts as complex_fft
 use Rattle.complex_fft.specs.Promises.{ComplexForward, ComplexInverse, ReversalTable, Butterfly}
 use Rattle.fft.specs.contracts as fft
-use Rattle.fft.specs.Promises.{Forward, Inverse, ForwardWith, InverseWith, InverseHalfWith, RefusedKeeps}
+use Rattle.fft.specs.Promises.{Forward, Inverse, ForwardWith, InverseWith, InverseHalfWith, RefusedKeeps, inverted_of}
 use Rattle.rho.specs.contracts as rho
 use Rattle.rho_state.specs.declared.state.RhoCanceller.{RhoCanceller}
 use Rattle.rho_sample.specs.Sample as rho_sample
@@ -151,22 +151,22 @@ module _ {M : Type 1} {𝓤 : Ura M} (𝓛 : Logic 𝓤) (mem : Memory → SProp
   abbrev pub Transforms : Type 2
   Transforms =
       Says complex_fft.complex_forward.ended (complex_fft.complex_forward.clauses 𝓛 mem run)
-      (λ _ (x, _) r (x', _). ComplexForward x.now r x'.now)
+      (λ _ (x, _) r (x', _). ComplexForward x.now (number_in r) x'.now)
       × Says complex_fft.complex_inverse.ended (complex_fft.complex_inverse.clauses 𝓛 mem run)
-      (λ _ (x, _) r (x', _). ComplexInverse x.now r x'.now)
+      (λ _ (x, _) r (x', _). ComplexInverse x.now (number_in r) x'.now)
       × Says fft.forward.ended (fft.forward.clauses 𝓛 mem run)
-      (λ _ (x, (out, _)) r (_, (out', _)). Forward x.now out.now r out'.now)
+      (λ _ (x, (out, _)) r (_, (out', _)). Forward x.now out.now (number_in r) out'.now)
       × Says fft.inverse.ended (fft.inverse.clauses 𝓛 mem run)
-      (λ _ (x, (out, _)) r (_, (out', _)). Inverse x.now out.now r out'.now)
+      (λ _ (x, (out, _)) r (_, (out', _)). Inverse x.now out.now (inverted_of r) out'.now)
       × SaysBoth fft.forward_with.ended (fft.forward_with.clauses 𝓛 mem run)
-      (λ _ (t, (s, (x, (out, _)))) r (_, (_, (_, (out', _)))). ForwardWith t.now s.now x.now out.now r out'.now)
-      (λ _ (t, (s, (x, (out, _)))) r (_, (s', _)). RefusedKeeps s.now r s'.now)
+      (λ _ (t, (s, (x, (out, _)))) r (_, (_, (_, (out', _)))). ForwardWith t.now s.now x.now out.now (number_in r) out'.now)
+      (λ _ (t, (s, (x, (out, _)))) r (_, (s', _)). RefusedKeeps s.now (number_in r) s'.now)
       × SaysBoth fft.inverse_with.ended (fft.inverse_with.clauses 𝓛 mem run)
-      (λ _ (t, (s, (x, (out, _)))) r (_, (_, (_, (out', _)))). InverseWith t.now s.now x.now out.now r out'.now)
-      (λ _ (t, (s, (x, (out, _)))) r (_, (s', _)). RefusedKeeps s.now r.refusal s'.now)
+      (λ _ (t, (s, (x, (out, _)))) r (_, (_, (_, (out', _)))). InverseWith t.now s.now x.now out.now (inverted_of r) out'.now)
+      (λ _ (t, (s, (x, (out, _)))) r (_, (s', _)). RefusedKeeps s.now (number_in r) s'.now)
       × SaysBoth fft.inverse_half_with.ended (fft.inverse_half_with.clauses 𝓛 mem run)
-      (λ _ (t, (s, (x, (later, (out, _))))) r (_, (_, (_, (_, (out', _))))). InverseHalfWith t.now s.now x.now later out.now r out'.now)
-      (λ _ (t, (s, (x, (later, (out, _))))) r (_, (s', _)). RefusedKeeps s.now r.refusal s'.now)
+      (λ _ (t, (s, (x, (later, (out, _))))) r (_, (_, (_, (_, (out', _))))). InverseHalfWith t.now s.now x.now later out.now (inverted_of r) out'.now)
+      (λ _ (t, (s, (x, (later, (out, _))))) r (_, (s', _)). RefusedKeeps s.now (number_in r) s'.now)
 
   -- RhoCanceller: w is the weights and h the history
   abbrev pub Rho : Type 2
@@ -198,10 +198,14 @@ module _ {M : Type 1} {𝓤 : Ura M} (𝓛 : Logic 𝓤) (mem : Memory → SProp
       × (capi.aspeyruni_narrow_bits.clauses 𝓛 mem run ≡ numbers.narrow_bits.clauses 𝓛 mem run)
       × Says capi.aspeyruni_narrow_kind.ended (capi.aspeyruni_narrow_kind.clauses 𝓛 mem run) (λ _ (x, _) r _. NarrowKind x r)
       × (capi.aspeyruni_narrow_list.clauses 𝓛 mem run ≡ narrow_list.narrow_into.clauses 𝓛 mem run)
-      × (capi.aspeyruni_forward.clauses 𝓛 mem run ≡ fft.forward.clauses 𝓛 mem run)
-      × (capi.aspeyruni_inverse.clauses 𝓛 mem run ≡ fft.inverse.clauses 𝓛 mem run)
-      × (capi.aspeyruni_complex_forward.clauses 𝓛 mem run ≡ complex_fft.complex_forward.clauses 𝓛 mem run)
-      × (capi.aspeyruni_complex_inverse.clauses 𝓛 mem run ≡ complex_fft.complex_inverse.clauses 𝓛 mem run)
+      × Says capi.aspeyruni_forward.ended (capi.aspeyruni_forward.clauses 𝓛 mem run)
+      (λ _ (x, (out, _)) r (_, (out', _)). Forward x.now out.now r out'.now)
+      × Says capi.aspeyruni_inverse.ended (capi.aspeyruni_inverse.clauses 𝓛 mem run)
+      (λ _ (x, (out, _)) r (_, (out', _)). Inverse x.now out.now r out'.now)
+      × Says capi.aspeyruni_complex_forward.ended (capi.aspeyruni_complex_forward.clauses 𝓛 mem run)
+      (λ _ (x, _) r (x', _). ComplexForward x.now r x'.now)
+      × Says capi.aspeyruni_complex_inverse.ended (capi.aspeyruni_complex_inverse.clauses 𝓛 mem run)
+      (λ _ (x, _) r (x', _). ComplexInverse x.now r x'.now)
       × Says capi.aspeyruni_rho_create.ended (capi.aspeyruni_rho_create.clauses 𝓛 mem run)
       (λ _ (rate, (tail, (w, (h, _)))) r (_, (_, (w', (h', _)))). rho_promises.Create rate tail w.now h.now r w'.now h'.now)
       × Says capi.aspeyruni_rho_process.ended (capi.aspeyruni_rho_process.clauses 𝓛 mem run)

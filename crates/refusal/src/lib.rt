@@ -3,6 +3,9 @@
 
 ghost use Rattle.std.specs.Prelude.{◌≡◌};
 ghost use Rattle.refusal.specs.Refusal.{number_of, number_in};
+ghost use Rattle.refusal.specs.declared.Refusal.TheVariants.{WrongLength};
+
+use std::array::TryFromSliceError;
 
 #[derive(Clone, Copy, Debug, PartialEq, Eq)]
 pub enum Refusal {
@@ -24,6 +27,15 @@ pub enum Refusal {
     BadHeader,
     // The bytes end inside the record.
     CutShort,
+}
+
+// A lent buffer of another length than the array that it is taken for.
+impl From<TryFromSliceError> for Refusal {
+    ghost from_gives = { λ _ refusal. refusal ≡ WrongLength };
+
+    fn from(_error: TryFromSliceError) -> Refusal {
+        Refusal::WrongLength
+    }
 }
 
 impl From<Refusal> for u32 {

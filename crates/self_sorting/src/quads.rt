@@ -1,6 +1,6 @@
 // Four numbers at a time: two stages over them with three twiddles. The numbers lie in a scratch of 1,024, of which a half holds 256 real
 // parts and then 256 imaginary ones.
-ghost use Rattle.std.specs.Prelude.{◌≡◌, ◌+◌, ◌*◌, ◌≤◌, ◌<◌, length};
+ghost use Rattle.std.specs.Prelude.{◌≡◌, ◌+◌, ◌*◌, ◌<◌};
 ghost use Rattle.self_sorting.specs.Quads.{get_s, put_s, four_of, put_four, two_stages, turns_of};
 
 use complex::Complex;
@@ -22,15 +22,15 @@ pub struct Turns {
     pub third: Complex,
 }
 
-pub fn get_split(z: &[f64], i: usize) -> Complex
-    requires { i + 256 < length z.now }
+pub fn get_split(z: &[f64; 1024], i: usize) -> Complex
+    requires { i < 768 }
     ensures { result ≡ get_s z.now i }
 {
     Complex::new(z[i], z[i + 256])
 }
 
-pub fn put_split(z: &mut [f64], i: usize, v: Complex)
-    requires { i + 256 < length z.old }
+pub fn put_split(z: &mut [f64; 1024], i: usize, v: Complex)
+    requires { i < 768 }
     ensures { z.new ≡ put_s z.old i v }
 {
     z[i] = v.re;
@@ -38,68 +38,55 @@ pub fn put_split(z: &mut [f64], i: usize, v: Complex)
 }
 
 // Four numbers, each `step` on from the one before.
-pub fn get_four(z: &[f64], i: usize, step: usize) -> Four
-    requires { (step ≤ 64) × (i + 3 * step + 256 < length z.now) }
+#[tactic(auto, unfolding(crate::specs::Quads::four_of))]
+pub fn get_four(z: &[f64; 1024], i: usize, step: usize) -> Four
+    requires { i + 3 * step < 768 }
     ensures { result ≡ four_of z.now i step }
 {
-    let a = get_split(z, i);
-    let b = get_split(z, i + step);
-    let c = get_split(z, i + 2 * step);
-    let d = get_split(z, i + 3 * step);
-    Four { a, b, c, d }
+    Four {
+        a: get_split(z, i),
+        b: get_split(z, i + step),
+        c: get_split(z, i + 2 * step),
+        d: get_split(z, i + 3 * step),
+    }
 }
 
-pub fn put_four(z: &mut [f64], o: usize, f: Four)
-    requires { o + 448 < length z.old }
+#[tactic(auto, unfolding(crate::specs::Quads::put_four))]
+pub fn put_four(z: &mut [f64; 1024], o: usize, f: Four)
+    requires { o < 576 }
     ensures { z.new ≡ put_four z.old o f }
 {
-    let a = f.a;
-    let b = f.b;
-    let c = f.c;
-    let d = f.d;
-    put_split(z, o, a);
-    put_split(z, o + 64, b);
-    put_split(z, o + 128, c);
-    put_split(z, o + 192, d);
+    put_split(z, o, f.a);
+    put_split(z, o + 64, f.b);
+    put_split(z, o + 128, f.c);
+    put_split(z, o + 192, f.d);
 }
 
 // Two stages over four numbers.
+#[tactic(auto, unfolding(crate::specs::Quads::two_stages))]
 pub fn two_stages(x: Four, w: Turns) -> Four
     ensures { result ≡ two_stages x w }
 {
-    let xa = x.a;
-    let xb = x.b;
-    let xc = x.c;
-    let xd = x.d;
-    let w1 = w.first;
-    let w2 = w.second;
-    let w3 = w.third;
-    let p = butterfly(xa, xc, w1);
-    let q = butterfly(xb, xd, w1);
-    let pu = p.upper;
-    let pl = p.lower;
-    let qu = q.upper;
-    let ql = q.lower;
-    let r = butterfly(pu, qu, w2);
-    let s = butterfly(pl, ql, w3);
-    let a = r.upper;
-    let b = s.upper;
-    let c = r.lower;
-    let d = s.lower;
-    Four { a, b, c, d }
+    let p = butterfly(x.a, x.c, w.first);
+    let q = butterfly(x.b, x.d, w.first);
+    let r = butterfly(p.upper, q.upper, w.second);
+    let s = butterfly(p.lower, q.lower, w.third);
+    Four {
+        a: r.upper,
+        b: s.upper,
+        c: r.lower,
+        d: s.lower,
+    }
 }
 
-pub fn turns_at(table: &[f64], r: usize, inverse: bool) -> Turns
-    requires r_bound { r < 64 }
-    requires table_len { length table.now ≡ 514 }
+#[tactic(auto, unfolding(crate::specs::Quads::turns_of))]
+pub fn turns_at(table: &[f64; 514], r: usize, inverse: bool) -> Turns
+    requires { r < 64 }
     ensures { result ≡ turns_of table.now inverse r }
 {
-    let first = twiddle_at(table, 2 * r, inverse);
-    let second = twiddle_at(table, r, inverse);
-    let third = twiddle_at(table, r + 64, inverse);
     Turns {
-        first,
-        second,
-        third,
+        first: twiddle_at(table, 2 * r, inverse),
+        second: twiddle_at(table, r, inverse),
+        third: twiddle_at(table, r + 64, inverse),
     }
 }

@@ -20,7 +20,7 @@ pub fn spectrum(table: &[f64; 514], scratch: &mut [f64; 1024], window: &[f32], b
     requires window_len { (length window.now ≡ 512) × (length bins.old ≡ 514) }
     ensures { bins.new ≡ spectrum_of window.now }
 {
-    fft::forward_with(table, scratch, window, bins);
+    fft::forward_with(table, scratch, window, bins).unwrap();
 }
 
 pub fn first_half(
@@ -34,8 +34,8 @@ pub fn first_half(
     ensures samples_after { samples.new ≡ take 256 (samples_of bins.now) }
     ensures value { result ≡ overs_of bins.now }
 {
-    let inverted = fft::inverse_half_with(table, scratch, bins, false, samples);
-    inverted.overs as u32
+    let overs = fft::inverse_half_with(table, scratch, bins, false, samples);
+    overs.unwrap() as u32
 }
 
 pub fn later_half(
@@ -48,8 +48,8 @@ pub fn later_half(
     ensures samples_after { samples.new ≡ latter (samples_of bins.now) }
     ensures value { result ≡ overs_of bins.now }
 {
-    let inverted = fft::inverse_half_with(table, scratch, bins, true, samples);
-    inverted.overs as u32
+    let overs = fft::inverse_half_with(table, scratch, bins, true, samples);
+    overs.unwrap() as u32
 }
 
 fn store(

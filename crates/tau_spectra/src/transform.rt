@@ -25,7 +25,7 @@ impl Transform {
         requires { length bins.old ≡ 514 }
         ensures { bins.new ≡ spectrum_of window.now }
     {
-        fft::forward_with(&self.table, &mut self.scratch, window, bins);
+        fft::forward_with(&self.table, &mut self.scratch, window, bins).unwrap();
     }
 
     pub fn first_half(&mut self, bins: &[f64; 514], samples: &mut [f32]) -> u32
@@ -33,15 +33,15 @@ impl Transform {
         ensures samples_after { samples.new ≡ take 256 (samples_of bins.now) }
         ensures overs { result ≡ overs_of bins.now }
     {
-        let inverted = fft::inverse_half_with(&self.table, &mut self.scratch, bins, false, samples);
-        inverted.overs as u32
+        let overs = fft::inverse_half_with(&self.table, &mut self.scratch, bins, false, samples);
+        overs.unwrap() as u32
     }
 
     pub fn later_half(&mut self, bins: &[f64; 514], samples: &mut [f32; 256]) -> u32
         ensures samples_after { samples.new ≡ latter (samples_of bins.now) }
         ensures overs { result ≡ overs_of bins.now }
     {
-        let inverted = fft::inverse_half_with(&self.table, &mut self.scratch, bins, true, samples);
-        inverted.overs as u32
+        let overs = fft::inverse_half_with(&self.table, &mut self.scratch, bins, true, samples);
+        overs.unwrap() as u32
     }
 }

@@ -1,5 +1,5 @@
 use mathlib.Core.Path.{sym, ◌∙◌}
-use borrow.Author.Rules.{rules}
+use Rattle.std.proofs.Common.{rules}
 use Rattle.layout.proofs.Bins.{bin-one}
 use Rattle.layout.proofs.get.Goals as goal
 

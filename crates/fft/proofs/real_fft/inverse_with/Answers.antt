@@ -1,47 +1,25 @@
-use mathlib.Core.Path.{◌≡◌, refl}
-use native.Mathlib.Omega.{arith}
-use borrow.Author.Rules.{rules}
-use borrow.Author.Tests.{eq-eqb, ne_eqb}
-use Rattle.laws.specs.Choice.{pick_yes, pick_no}
-use Rattle.fft.specs.RealFft.{samples_with, overs_with}
-use Rattle.fft.specs.Calls.{inverse_with_of}
-use Rattle.fft.proofs.Lengths.{lengths}
+use Rattle.std.proofs.Common.{◌≡◌, ◌≢◌, ◌∙◌, arith, length, true, ap, Err}
+use Rattle.refusal.specs.declared.Refusal.TheVariants.{WrongLength}
+use Rattle.narrow_list.specs.Overs.{over_count}
+use Rattle.complex_fft.specs.ComplexFft.{run_of}
+use Rattle.complex_fft.specs.Reversal.{reversal_table}
+use Rattle.fft.specs.RealFft.{halves_of}
+use Rattle.fft.specs.Scratch.{points_in}
 use Rattle.fft.proofs.Halves.{all-points, all-samples}
+use Rattle.fft.proofs.Served.{inverse_made, inverse_refused}
 use Rattle.fft.proofs.real_fft.inverse_with.Goals as goal
 
-pub returns-then-not-lent : goal.returns-then-not-lent
-unfolding inverse_with_of samples_with overs_with
-returns-then-not-lent c = record {
-  inverse_with = pick_no _ _ _ (rw (← c.lent.ensures, c.if-not-lent.true)) (rw c.refused.ensures);
-  refused_keeps = λ _. refl;
-}
+pub returns-in_err-target-clause-inverse_with : goal.returns-in_err-target-clause-inverse_with
+returns-in_err-target-clause-inverse_with c =
+    let h : length c.args.target.now ≢ 512 = grind arith in
+    let e : c.from_residual-in_err-target.result ≡ Err WrongLength = grind arith in
+    rw e (inverse_refused _ _ _ _ h)
 
-pub returns-then-source-ne514 : goal.returns-then-source-ne514
-unfolding inverse_with_of samples_with overs_with
-returns-then-source-ne514 c = record {
-  inverse_with = pick_no _ _ _ (rw (← c.lent.ensures, c.if-not-lent.false, ne_eqb _ _ c.if-source-ne514.true)) (rw c.refused-then-source-ne514.ensures);
-  refused_keeps = λ _. refl;
-}
-
-pub returns-then-target-ne512 : goal.returns-then-target-ne512
-unfolding inverse_with_of samples_with overs_with
-returns-then-target-ne512 c = record {
-  inverse_with = pick_no _ _ _ (rw (← c.lent.ensures, c.if-not-lent.false, eq-eqb _ _ c.if-source-ne514.false, ne_eqb _ _ c.if-target-ne512.true)) (rw c.refused-then-target-ne512.ensures);
-  refused_keeps = λ _. refl;
-}
-
-pub load_points-requires : goal.load_points-requires
-unfolding inverse_with_of samples_with overs_with
-load_points-requires c = let n = lengths c.args.table.now c.args.scratch.now c.lent.result c.lent.ensures c.if-not-lent.false in search (rules, n)
-
-pub samples_at-overs-requires : goal.samples_at-overs-requires
-unfolding inverse_with_of samples_with overs_with
-samples_at-overs-requires c = let n = lengths c.args.table.now c.args.scratch.now c.lent.result c.lent.ensures c.if-not-lent.false in search (rules, n)
-
-pub returns : goal.returns
-unfolding inverse_with_of samples_with overs_with
-returns c = record {
-  inverse_with = pick_yes _ _ _ (rw (← c.lent.ensures, c.if-not-lent.false, eq-eqb _ _ c.if-source-ne514.false, eq-eqb _ _ c.if-target-ne512.false))
-      (rw (c.samples_at-overs.ensures.out_after, c.samples_at-overs.ensures.value, all-points c.load_points.new.z, all-samples c.load_points.new.z, c.load_points.ensures));
-  refused_keeps = λ (h : 0 ≡ 2). absurd (omega (arith, h));
-}
+pub returns-clause-inverse_with : goal.returns-clause-inverse_with
+returns-clause-inverse_with c =
+    let t : length c.args.table.now ≡ 514 = grind arith in
+    let z : length c.args.scratch.now ≡ 1024 = grind arith in
+    let s : length c.args.source.now ≡ 514 = grind arith in
+    let h : length c.args.target.now ≡ 512 = grind arith in
+    let p : points_in c.load_points.new.z ≡ run_of c.args.table.now reversal_table true (halves_of c.args.table.now c.args.source.now) = grind arith in
+    inverse_made _ _ t z _ _ _ _ _ s h p (c.samples_at.ensures.out_after ∙ all-samples c.load_points.new.z) (c.samples_at.ensures.value ∙ ap over_count (all-points c.load_points.new.z))

@@ -1,10 +1,5 @@
--- `fft::real_fft::overs_at` meets its contract. Assumes nothing.
-use mathlib.Core.Path.{◌≡◌, ap}
-use Prim.Native.Nat.{ℕ, ◌+◌, ◌-◌}
-use native.Mathlib.Omega.{arith}
-use mathlib.Core.List.{List}
-use lib.Ieee.{Float}
-use lib.ListN.{take, drop}
+use Rattle.std.proofs.Common.{◌≡◌, ◌+◌, ◌-◌, ℕ, List, take, drop, ap, arith, rules, length}
+use Rattle.std.specs.Prelude.{Float}
 use Rattle.fft.proofs.Halves.{dropped-count, slice-few}
 use Rattle.fft.proofs.real_fft.overs_at.Goals as goal
 
@@ -18,8 +13,14 @@ slices z first n =
     (ap (λ (k : ℕ). take k (drop first z)) e, ap (λ (k : ℕ). take k (drop (256 + first) z)) f)
 
 pub overflow_add-result : goal.overflow_add-result
-overflow_add-result c = let few = slice-few c.args.z.now c.requires.z_len c.args.first c.args.n c.requires.n_bound in
-    omega (arith, c.overs_scaled-re.ensures, c.overs_scaled-im.ensures, few c.args.first _ (omega arith) (slices c.args.z.now c.args.first c.args.n).0, few (256 + c.args.first) _ (omega arith) (slices c.args.z.now c.args.first c.args.n).1)
+overflow_add-result c =
+    let long : length c.args.z.now ≡ 1024 = search rules in
+    let few = slice-few c.args.z.now long c.args.first c.args.n c.requires in
+    let s = slices c.args.z.now c.args.first c.args.n in
+    omega (arith, c.overs_scaled-re.ensures, c.overs_scaled-im.ensures, few c.args.first _ (omega arith) s.0, few (256 + c.args.first) _ (omega arith) s.1)
 
 pub returns : goal.returns
-returns c = rw (c.overs_scaled-re.ensures, c.overs_scaled-im.ensures) (dropped-count c.args.z.now c.requires.z_len c.args.first c.args.n c.requires.n_bound _ _ (slices c.args.z.now c.args.first c.args.n).0 (slices c.args.z.now c.args.first c.args.n).1)
+returns c =
+    let long : length c.args.z.now ≡ 1024 = search rules in
+    let s = slices c.args.z.now c.args.first c.args.n in
+    rw (c.overs_scaled-re.ensures, c.overs_scaled-im.ensures) (dropped-count c.args.z.now long c.args.first c.args.n c.requires _ _ s.0 s.1)

@@ -1,4 +1,4 @@
 use Rattle.fft.proofs.real_fft.transform_loaded.Goals as goal
 
 pub returns : goal.returns
-returns c = rw (c.recombine.ensures, c.all_passes.ensures)
+returns g c = rw (c.recombine.ensures, c.all_passes.ensures)

@@ -1,9 +1,9 @@
-use mathlib.Core.Path.{ap, ◌∙◌}
-use Rattle.fft.specs.Calls.{Wrote, spectrum_of}
-use Rattle.fft.proofs.Served.{forward-with-served}
-use borrow.Author.Rules.{rules}
+use Rattle.std.proofs.Common.{rules}
+use Rattle.fft.proofs.Served.{forward_told}
 use Rattle.tau_spectra.proofs.lent.spectrum.Goals as goal
 
+pub unwrap-requires : goal.unwrap-requires
+unwrap-requires c = let told = forward_told _ _ (search rules) (search rules) c.requires.table_value _ _ (search rules) (search rules) _ c.forward_with.ensures.forward_with in search (rules, told.0)
+
 pub returns : goal.returns
-unfolding spectrum_of
-returns c = rw c.requires.table_value at (ap (λ (w : Wrote). w.out) (c.forward_with.ensures.forward_with ∙ forward-with-served _ _ (search rules) (search rules) _ _ (search rules) (search rules)))
+returns c = (forward_told _ _ (search rules) (search rules) c.requires.table_value _ _ (search rules) (search rules) _ c.forward_with.ensures.forward_with).1

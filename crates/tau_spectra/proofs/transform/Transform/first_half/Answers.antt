@@ -1,16 +1,23 @@
-use Rattle.std.proofs.Common.{rules, arith}
+use Rattle.std.proofs.Common.{rules, arith, ◌≡◌}
 use Rattle.laws.specs.Choice.{pick}
-use Rattle.fft.specs.Calls.{half_of_samples}
-use Rattle.fft.proofs.Served.{half-tells}
+use Rattle.fft.specs.Calls.{half_of_samples, overs_of}
+use Rattle.fft.proofs.Served.{half_told}
 use Rattle.tau_spectra.proofs.transform.Transform.first_half.Goals as goal
+
+pub unwrap-requires : goal.unwrap-requires
+unwrap-requires c =
+    let told = half_told _ _ (search rules) (search rules) c.args.self.now.is_table _ _ _ (search rules) (search rules) _ c.inverse_half_with-overs.ensures.inverse_half_with in
+    search (rules, told.0)
 
 pub overflow_cast-result : goal.overflow_cast-result
 overflow_cast-result c =
-    let told = half-tells _ _ (search rules) (search rules) c.args.self.now.is_table _ _ _ (search rules) (search rules) c.inverse_half_with-inverted.ensures.inverse_half_with in
-    omega (arith, told.2)
+    let told = half_told _ _ (search rules) (search rules) c.args.self.now.is_table _ _ _ (search rules) (search rules) _ c.inverse_half_with-overs.ensures.inverse_half_with in
+    let e : c.unwrap.result ≡ overs_of c.args.bins.now = grind (arith, told.0) in
+    omega (arith, e, told.2)
 
 pub returns : goal.returns
 unfolding half_of_samples pick
 returns c =
-    let told = half-tells _ _ (search rules) (search rules) c.args.self.now.is_table _ _ _ (search rules) (search rules) c.inverse_half_with-inverted.ensures.inverse_half_with in
-    record { samples_after = told.0; overs = told.1 }
+    let told = half_told _ _ (search rules) (search rules) c.args.self.now.is_table _ _ _ (search rules) (search rules) _ c.inverse_half_with-overs.ensures.inverse_half_with in
+    let e : c.unwrap.result ≡ overs_of c.args.bins.now = grind (arith, told.0) in
+    record { samples_after = told.1; overs = e }

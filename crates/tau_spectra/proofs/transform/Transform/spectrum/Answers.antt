@@ -1,8 +1,9 @@
-use Rattle.std.proofs.Common.{rules, ap, ◌∙◌}
-use Rattle.fft.specs.Calls.{Wrote, spectrum_of}
-use Rattle.fft.proofs.Served.{forward-with-served}
+use Rattle.std.proofs.Common.{rules}
+use Rattle.fft.proofs.Served.{forward_told}
 use Rattle.tau_spectra.proofs.transform.Transform.spectrum.Goals as goal
 
+pub unwrap-requires : goal.unwrap-requires
+unwrap-requires c = let told = forward_told _ _ (search rules) (search rules) c.args.self.now.is_table _ _ (search rules) (search rules) _ c.forward_with.ensures.forward_with in search (rules, told.0)
+
 pub returns : goal.returns
-unfolding spectrum_of
-returns c = rw c.args.self.now.is_table at (ap (λ (w : Wrote). w.out) (c.forward_with.ensures.forward_with ∙ forward-with-served _ _ (search rules) (search rules) _ _ (search rules) (search rules)))
+returns c = (forward_told _ _ (search rules) (search rules) c.args.self.now.is_table _ _ (search rules) (search rules) _ c.forward_with.ensures.forward_with).1

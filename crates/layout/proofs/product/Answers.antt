@@ -1,4 +1,0 @@
-use Rattle.layout.proofs.product.Goals as goal
-
-pub returns : goal.returns
-returns c = rw (c.mul.ensures, c.get-2.ensures, c.get.ensures)
