@@ -4,34 +4,32 @@
 #![tactic(auto)]
 
 use pipe::write_all;
-use record_input::Next;
+use record::Kind;
+use record_input::{Input, RunError, say};
 use std::io::{Read, Write};
 
-// A proved loop has to end, and nothing says that the input does. So it counts its turns down, from a number that no run uses up.
 pub fn run<R: Read, W: Write, E: Write>(
     stdin: &mut R,
     stdout: &mut W,
     stderr: &mut E,
-    kind: u32,
-    program: &[u8],
+    kind: Kind,
+    program: &str,
 ) {
-    let mut block = [0u8; 36870];
-    let mut input = record_input::start();
-    let mut turns = u64::MAX;
-    while turns > 0 {
-        let next = record_input::next_record(stdin, input, &mut block);
-        let Next::Whole(record) = next else {
-            record_input::say(stderr, program, next);
-            return;
-        };
-        let from = record.from;
-        let end = record.end;
-        if record.kind == kind && !write_all(stdout, record::payload(&block[from..end])) {
-            record_input::say_failed_write(stderr, program);
-            return;
-        }
-        let rest = record.rest;
-        input = rest;
-        turns -= 1;
+    if let Err(error) = copy(stdin, stdout, kind) {
+        say(stderr, program, error);
     }
+}
+
+// A proved loop has to end, and nothing says that the input does. So it counts its turns, up to a number that no run comes to.
+fn copy<R: Read, W: Write>(stdin: &mut R, stdout: &mut W, kind: Kind) -> Result<(), RunError> {
+    let mut input = Input::new();
+    for _ in 0..u64::MAX {
+        let Some(record) = input.next_record(stdin)? else {
+            return Ok(());
+        };
+        if record.kind == kind && !write_all(stdout, record.payload) {
+            return Err(RunError::WriteFailed);
+        }
+    }
+    Ok(())
 }

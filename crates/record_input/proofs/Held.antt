@@ -13,9 +13,7 @@ use Rattle.laws.specs.Choice.{pick-if}
 use Rattle.record.specs.Reading.{read_of}
 use Rattle.record.proofs.Accepted.{nine-short}
 use Rattle.record.proofs.Records.{read-refusal, size-most}
-use Rattle.record_input.specs.declared.front.Front.{Front}
-use Rattle.record_input.specs.declared.front.Front.TheVariants.{Whole, Begun, End, Refused}
-use Rattle.record_input.specs.Front.{front_of}
+use Rattle.record_input.specs.Front.{Front, Whole, Begun, End, Refused, front_of}
 
 pub size-within : (s : List ℕ) → (read_of s).refusal ≡ 0 → (read_of s).size ≤ length s
 size-within s h = size-most s (sym (read-refusal s) ∙ h)

@@ -1,55 +1,140 @@
--- A turn of the loop that reads: a whole record lies where the answer says, and a read leaves more to judge or the input's end.
--- Assumes nothing.
-use mathlib.Core.Path.{◌≡◌, refl, sym, ap, ◌∙◌}
+-- A turn of the loop that reads: a read leaves more to judge or the input's end; and a record that is handed out. Assumes nothing.
+--     length-held      how many bytes are held
+--     grew             what a read leaves
+--     ends-within      a whole record ends within what is held
+--     handed           what is handed out, and what is held then
+use mathlib.Core.Path.{◌≡◌, refl, sym, ap, ◌∙◌, subst}
 use mathlib.Core.Bool.{false}
 use mathlib.Core.List.{List}
-use Prim.Native.Nat.{ℕ, suc, ◌+◌, ◌-◌, ◌≤◌, ◌<◌}
-use native.Mathlib.Nat.{add-sub_cancel_left}
+use Prim.Native.Nat.{ℕ, suc, ◌+◌, ◌-◌, ◌^◌, ◌≤◌, ◌<◌, min}
 use native.Mathlib.Omega.{arith}
 use borrow.Author.Tests.{eqb-false}
 use borrow.Rule.Slice.PartMut.{put_mid, take_put}
-use lib.Dec.{eqb}
+use lib.Dec.{eqb, ltb}
 use lib.ListN.{length, take, drop, length-drop}
-use lib.Seq.{length-take-le, take-take}
+use lib.Seq.{length-take-le}
+use denote.Ref.{Bor}
+use Rattle.std.specs.Prelude.{Ok, Option, Some}
+use Rattle.std.specs.List.{copy_within}
+use Rattle.std.proofs.Common.{zero-add}
+use Rattle.std.proofs.lemmas.Bool.{ltb-true, ltb-false}
+use Rattle.std.proofs.lemmas.List.{drop-take, drop-drop, take-take}
+use Rattle.std.proofs.lemmas.List.Edits.{take-paste}
 use Rattle.laws.specs.Choice.{pick-if, pick_no}
-use Rattle.record.specs.Reading.{Found, read_of}
+use Rattle.record.specs.declared.header.Header.{Header}
+use Rattle.record.specs.Kind.{number_of}
+use Rattle.record.specs.Reading.{Found, length_in, read_refusal, read_of, payload_of}
+use Rattle.record.proofs.Records.{read-refusal, read-yes, payload-yes}
 use Rattle.record_input.specs.declared.reading.Input.{Input}
-use Rattle.record_input.specs.declared.reading.Next.TheVariants as next
-use Rattle.record_input.specs.declared.reading.Read.TheVariants as read
 use Rattle.record_input.specs.Front.{place_after}
-use Rattle.record_input.specs.Reading.{Lies, held_of, taken_of, Says, turns_of, Grew}
+use Rattle.record_input.specs.Reading as says
+use Rattle.record_input.specs.Reading.{held_of, turns_of, Grew, Handed}
 use Rattle.record_input.proofs.Held.{size-within}
 
-pub length-held : (i : Input) (b : List ℕ) → Lies i b → length (held_of i b) ≡ i.end - i.from
-length-held i b h = length-take-le (i.end - i.from) (drop i.from b) (omega (arith, length-drop i.from b, h.0, h.1))
+pub length-held : (i : Input) → length (held_of i) ≡ i.end - i.from
+length-held i = length-take-le (i.end - i.from) (drop i.from i.block) (omega (arith, length-drop i.from i.block, i.lies.0, i.lies.1))
 
-module _ (i : Input) (b : List ℕ) (kind size : ℕ) (h : Lies i b) (e : read_of (held_of i b) ≡ record { refusal = 0; kind = kind; size = size }) where
-  -- a whole record ends within what is held
-  pub ends-within : i.from + size ≤ i.end
-  ends-within =
-      let w = size-within (held_of i b) (ap (λ (f : Found). f.refusal) e) in
-      let s = ap (λ (f : Found). f.size) e in
-      let l = length-held i b h in
-      omega (arith, h.0)
+-- ---- more is read
 
-  pub whole_says : (place : ℕ) → i.place ≡ place → Says place (next.Whole (taken_of i kind size)) b
-  whole_says place p =
-      let w = ends-within in
-      let n : size ≡ i.from + size - i.from = sym (add-sub_cancel_left i.from size) in (
-        (omega arith, omega (arith, h.1)),
-        (((w, h.1), refl), ((p, (λ k. place_after (p k) (n k))), e ∙ (λ k. record { refusal = 0; kind = kind; size = n k }))),
-      )
+-- what is held goes to the front
+moved : (i : Input) → take (i.end - i.from) (copy_within i.block i.from i.end 0) ≡ held_of i
+moved i =
+    let n = i.end - i.from in
+    let l : n ≤ length (drop i.from i.block) = omega (arith, length-drop i.from i.block, i.lies.0, i.lies.1) in
+    ap (λ (a : ℕ). take a (copy_within i.block i.from i.end 0)) (sym (zero-add n)) ∙ take-paste i.block 0 (drop i.from i.block) n (omega arith) l
 
 -- m is the block once what was held stands at its front, and v what the read left behind that
-pub grew : (i : Input) (b m v : List ℕ) (k n : ℕ) → n ≡ i.end - i.from → i.ended ≡ false → n < length b → length m ≡ length b
-    → take n m ≡ held_of i b → length (put_mid n (length m - n) m v) ≡ length m → n + k ≤ length m
-    → Grew i (read.Held (record { from = 0; end = n + k; place = i.place; ended = eqb k 0 })) b (put_mid n (length m - n) m v)
-grew i b m v k n is o l s t same room =
-    let after = put_mid n (length m - n) m v in
-    let j : Input = record { from = 0; end = n + k; place = i.place; ended = eqb k 0 } in
-    let before : turns_of i b ≡ suc (length b - (i.end - i.from)) = sym (pick_no _ _ _ o refl) in
-    let kept : take (i.end - i.from) (held_of j after) ≡ held_of i b =
-    ap (λ (a : ℕ). take a (held_of j after)) (sym is) ∙ take-take n (n + k - 0) after (omega arith) ∙ take_put n (length m - n) m v (omega arith) ∙ t in
-    let fewer : turns_of j after < turns_of i b =
-    pick-if (λ (x : ℕ). x < turns_of i b) (eqb k 0) (λ e. omega arith) (λ f. let some = eqb-false k 0 f in omega arith) in
-    (((omega arith, omega arith), refl), (kept, fewer))
+module _ (i : Input) (m v : List ℕ) (k : ℕ) where
+  abbrev n : ℕ
+  n = i.end - i.from
+
+  abbrev then : List ℕ
+  then = put_mid n (36870 - n) m v
+
+  pub grew : (room : length then ≡ 36870) (lies : (0 ≤ n + k) × (n + k ≤ length then)) → i.ended ≡ false → n < length i.block → m ≡ copy_within i.block i.from i.end 0 → length m ≡ 36870
+      → Grew i (Ok tt) (record { block = then; from = 0; end = n + k; place = i.place; ended = eqb k 0; room = room; lies = lies })
+  grew room lies o l moves same =
+      let after : Input = record { block = then; from = 0; end = n + k; place = i.place; ended = eqb k 0; room = room; lies = lies } in
+      let before : turns_of i ≡ suc (length i.block - n) = sym (pick_no _ _ _ o refl) in
+      let kept : take n (held_of after) ≡ held_of i =
+      take-take n (n + k - 0) then (omega arith) ∙ take_put n (36870 - n) m v (omega arith) ∙ ap (take n) moves ∙ moved i in
+      let fewer : turns_of after < turns_of i =
+      rw (before, i.room, room) (pick-if (λ (x : ℕ). x < suc (36870 - n)) (eqb k 0) (λ e. omega arith) (λ f. let some = eqb-false k 0 f in omega arith)) in
+      (refl, (kept, fewer))
+
+-- ---- a record is handed out
+
+-- the place behind a record
+saturates : (place n : ℕ) → place < 2 ^ 64 → min (place + n) (2 ^ 64 - 1) ≡ place_after place n
+unfolding place_after
+saturates place n small =
+    pick-if (λ (x : ℕ). min (place + n) (2 ^ 64 - 1) ≡ x) (ltb (2 ^ 64 - 1 - place) n)
+    (λ e. let h = ltb-true _ _ e in omega arith) (λ e. let h = ltb-false _ _ e in omega arith)
+
+pub ends-within : (i : Input) (k n : ℕ) → read_of (held_of i) ≡ record { refusal = 0; kind = k; size = n } → i.from + n ≤ i.end
+ends-within i k n e =
+    let w = size-within (held_of i) (ap (λ (f : Found). f.refusal) e) in
+    let s = ap (λ (f : Found). f.size) e in
+    let l = length-held i in
+    omega (arith, i.lies.0)
+
+-- h is the header of a whole record at the front of what is held
+module _ (i : Input) (h : Header) (e : read_of (held_of i) ≡ record { refusal = 0; kind = number_of h.kind; size = 6 + h.len }) where
+  abbrev part : List ℕ
+  part = take (i.from + (6 + h.len) - (i.from + 6)) (drop (i.from + 6) i.block)
+
+  ends : i.from + (6 + h.len) ≤ i.end
+  ends = ends-within i _ _ e
+
+  ok : read_refusal (held_of i) ≡ 0
+  ok = sym (read-refusal (held_of i)) ∙ ap (λ (f : Found). f.refusal) e
+
+  said : length_in (held_of i) ≡ h.len
+  said = let s = ap (λ (f : Found). f.size) (sym (read-yes (held_of i) ok) ∙ e) in omega (arith, s)
+
+  part-length : length part ≡ h.len
+  part-length =
+      let w = ends in
+      length-take-le (i.from + (6 + h.len) - (i.from + 6)) (drop (i.from + 6) i.block) (omega (arith, length-drop (i.from + 6) i.block, i.lies.1)) ∙ omega arith
+
+  payload_is : part ≡ payload_of (held_of i)
+  payload_is =
+      let s = held_of i in
+      let w = ends in
+      let m = i.end - i.from - 6 in
+      let six : 6 + m ≡ i.end - i.from = omega (arith, w) in
+      let behind : drop 6 s ≡ take m (drop (i.from + 6) i.block) =
+      ap (λ (n : ℕ). drop 6 (take n (drop i.from i.block))) (sym six) ∙ drop-take 6 m (drop i.from i.block) ∙ ap (take m) (drop-drop 6 i.from i.block) in
+      let n : i.from + (6 + h.len) - (i.from + 6) ≡ length_in s = omega (arith, said) in
+      ap (λ (k : ℕ). take k (drop (i.from + 6) i.block)) n
+      ∙ sym (take-take (length_in s) m (drop (i.from + 6) i.block) (omega (arith, said, w)))
+      ∙ ap (take (length_in s)) (sym behind)
+      ∙ sym (payload-yes s ok)
+
+  rest_is : take (i.end - (i.from + (6 + h.len))) (drop (i.from + (6 + h.len)) i.block) ≡ drop (6 + h.len) (held_of i)
+  rest_is =
+      let n = 6 + h.len in
+      let w = ends in
+      let left : n + (i.end - (i.from + n)) ≡ i.end - i.from = omega (arith, w) in
+      ap (take (i.end - (i.from + n))) (sym (drop-drop n i.from i.block))
+      ∙ sym (drop-take n (i.end - (i.from + n)) (drop i.from i.block))
+      ∙ ap (λ (m : ℕ). drop n (take m (drop i.from i.block))) left
+
+  -- size is what the code has as the record's size, p the part of the block that it lends, and then the place behind
+  pub handed : (place size then : ℕ) (p : Bor (List ℕ)) {room : length i.block ≡ 36870} {lies : (i.from + size ≤ i.end) × (i.end ≤ length i.block)}
+      → i.place ≡ place → i.place < 2 ^ 64 → size ≡ 6 + h.len → p.now ≡ take (i.from + size - (i.from + 6)) (drop (i.from + 6) i.block) → then ≡ min (i.place + size) (2 ^ 64 - 1)
+      → Handed place (record { kind = h.kind; payload = p; place = i.place }) (record { block = i.block; from = i.from + size; end = i.end; place = then; ended = i.ended; room = room; lies = lies })
+  handed place size then p same small long lent behind =
+      let is : p.now ≡ part = lent ∙ ap (λ (n : ℕ). take (i.from + n - (i.from + 6)) (drop (i.from + 6) i.block)) long in
+      let l : 6 + h.len ≡ 6 + length p.now = ap (λ (n : ℕ). 6 + n) (sym (ap length is ∙ part-length)) in
+      record {
+        held = held_of i;
+        whole = e ∙ ap (λ (n : ℕ). record { refusal = 0; kind = number_of h.kind; size = n }) l;
+        payload = is ∙ payload_is;
+        rest = ap (λ (n : ℕ). take (i.end - (i.from + n)) (drop (i.from + n) i.block)) long ∙ rest_is ∙ ap (λ (n : ℕ). drop n (held_of i)) l;
+        begins = same;
+        goes_on = behind ∙ saturates i.place size small ∙ (λ k. place_after (same k) ((long ∙ l) k));
+      }
+
+pub found-some : (place : ℕ) (i : Input) {o : Option Header} {h : Header} → o ≡ Some h → says.Found place (Ok o) i → says.Found place (Ok (Some h)) i
+found-some place i e f = subst (λ o. says.Found place (Ok o) i) e f

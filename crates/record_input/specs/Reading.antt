@@ -1,60 +1,62 @@
--- What is held of the input, and what an answer says of it. Definitions only, over the bytes b of the block.
---     start_of            an input of which nothing is read
---     Lies i b           what is held lies in the block
---     held_of i b         the bytes held
---     taken_of i kind n   the record of n bytes at the front of what is held, and what follows it
---     Judged f b         bytes held in the block have f at their front
---     Says place r b     the answer r, where what is held begins at this place of the input
---     Grew i r b after   a read: what was held stands at the block's front, and there is more of it, unless the input has ended
-use Rattle.std.specs.Prelude.{◌≡◌, false, List, ℕ, suc, ◌+◌, ◌-◌, ◌≤◌, ◌<◌, length, take, drop}
+-- What is held of the input, and what an answer says of it. Definitions only.
+--     held_of i           the bytes held
+--     IsStart i           an input of which nothing is read
+--     Handed place r i    the record r, where what is held began at this place of the input, and what is then held
+--     Says place r i      any answer to who asks for a record
+--     Found place r i     any answer to who asks whether there is one, which is still held
+--     Grew i r after      a read: what was held stands at the block's front, and there is more of it, unless the input has ended
+use Rattle.std.specs.Prelude.{◌≡◌, false, List, [], ℕ, suc, ◌+◌, ◌-◌, ◌<◌, length, take, drop, Result, Ok, Err, Option, None, Some}
 use Rattle.laws.specs.Choice.{pick}
-use Rattle.record.specs.Reading.{read_of}
-use Rattle.record_input.specs.declared.front.Front.{Front}
-use Rattle.record_input.specs.declared.front.Front.TheVariants as front
+use Rattle.refusal.specs.Refusal as refusals
+use Rattle.record.specs.declared.header.Header.{Header}
+use Rattle.record.specs.Kind.{number_of}
+use Rattle.record.specs.Reading.{read_of, payload_of}
+use Rattle.record_input.specs.declared.error.InputError.{InputError}
+use Rattle.record_input.specs.declared.error.InputError.TheVariants.{Refused, ReadFailed}
 use Rattle.record_input.specs.declared.reading.Input.{Input}
 use Rattle.record_input.specs.declared.reading.Record.{Record}
-use Rattle.record_input.specs.declared.reading.Next.{Next}
-use Rattle.record_input.specs.declared.reading.Next.TheVariants as next
-use Rattle.record_input.specs.declared.reading.Read.{Read}
-use Rattle.record_input.specs.declared.reading.Read.TheVariants as read
+use Rattle.record_input.specs.Front as fronts
 use Rattle.record_input.specs.Front.{front_of, place_after}
 
-abbrev pub start_of : Input
-start_of = record { from = 0; end = 0; place = 0; ended = false }
+abbrev pub held_of : Input → List ℕ
+held_of i = take (i.end - i.from) (drop i.from i.block)
 
-abbrev pub Lies : Input → List ℕ → Type 0
-Lies i b = (i.from ≤ i.end) × (i.end ≤ length b)
+-- nothing is read yet
+abbrev pub IsStart : Input → Type 0
+IsStart i = (held_of i ≡ []) × ((i.place ≡ 0) × (i.ended ≡ false))
 
-abbrev pub held_of : Input → List ℕ → List ℕ
-held_of i b = take (i.end - i.from) (drop i.from b)
+-- it is what record reads at the front of the bytes that were held, and what follows it is held still
+pub record Handed (place : ℕ) (r : Record) (after : Input) : Type 0 where
+  pub held : List ℕ
+  pub whole : read_of held ≡ record { refusal = 0; kind = number_of r.kind; size = 6 + length r.payload.now }
+  pub payload : r.payload.now ≡ payload_of held
+  pub rest : held_of after ≡ drop (6 + length r.payload.now) held
+  pub begins : r.place ≡ place
+  pub goes_on : after.place ≡ place_after place (6 + length r.payload.now)
 
-abbrev pub taken_of : Input → ℕ → ℕ → Record
-taken_of i kind n =
-    let rest : Input = record { from = i.from + n; end = i.end; place = place_after i.place n; ended = i.ended } in
-    record { kind = kind; from = i.from; end = i.from + n; place = i.place; rest = rest }
+abbrev pub Fails : ℕ → InputError → Input → Type 0
+Fails place (Refused refusal at) i = (at ≡ place) × (front_of (held_of i) i.ended ≡ fronts.Refused (refusals.number_of refusal))
+Fails place ReadFailed i = Unit
 
-pub record Judged (f : Front) (b : List ℕ) : Type 0 where
-  pub held : Input
-  pub lies : Lies held b
-  pub is : front_of (held_of held b) held.ended ≡ f
+abbrev pub Ends : Input → Type 0
+Ends i = front_of (held_of i) i.ended ≡ fronts.End
 
--- a whole record is what record reads at the front of what is held, it lies in the block, and what follows it lies behind it there
-abbrev pub Says : ℕ → Next → List ℕ → Type 0
-Says place (next.Whole r) b =
-    ((r.from ≤ r.end) × (r.end ≤ length b))
-    × ((Lies r.rest b × (r.rest.from ≡ r.end))
-    × (((r.place ≡ place) × (r.rest.place ≡ place_after place (r.end - r.from)))
-    × (read_of (take (r.rest.end - r.from) (drop r.from b)) ≡ record { refusal = 0; kind = r.kind; size = r.end - r.from })))
-Says place next.End b = Judged front.End b
-Says place (next.Refused n at) b = (at ≡ place) × Judged (front.Refused n) b
-Says place next.Failed b = Unit
+abbrev pub Says : ℕ → Result (Option Record) InputError → Input → Type 0
+Says place (Ok (Some r)) i = Handed place r i
+Says place (Ok None) i = Ends i
+Says place (Err e) i = Fails place e i
+
+abbrev pub Found : ℕ → Result (Option Header) InputError → Input → Type 0
+Found place (Ok (Some h)) i = (i.place ≡ place) × (read_of (held_of i) ≡ record { refusal = 0; kind = number_of h.kind; size = 6 + h.len })
+Found place (Ok None) i = Ends i
+Found place (Err e) i = Fails place e i
 
 -- how many turns of the loop are left at most: as many as the block has places free, and one more
-abbrev pub turns_of : Input → List ℕ → ℕ
-turns_of i b = pick i.ended 0 (suc (length b - (i.end - i.from)))
+abbrev pub turns_of : Input → ℕ
+turns_of i = pick i.ended 0 (suc (length i.block - (i.end - i.from)))
 
-abbrev pub Grew : Input → Read → List ℕ → List ℕ → Type 0
-Grew i (read.Held j) b after =
-    (Lies j after × (j.place ≡ i.place))
-    × ((take (i.end - i.from) (held_of j after) ≡ held_of i b) × (turns_of j after < turns_of i b))
-Grew i read.Failed b after = Unit
+abbrev pub Grew : Input → Result Unit InputError → Input → Type 0
+Grew i (Ok u) after =
+    (after.place ≡ i.place)
+    × ((take (i.end - i.from) (held_of after) ≡ held_of i) × (turns_of after < turns_of i))
+Grew i (Err e) after = e ≡ ReadFailed

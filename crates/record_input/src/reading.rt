@@ -1,125 +1,119 @@
 // Reading.
-ghost use Rattle.std.specs.Prelude.{◌≡◌, false, ◌+◌, ◌-◌, ◌≤◌, ◌<◌, length};
-ghost use Rattle.record_input.specs.Reading.{Lies, Says, Grew, start_of, taken_of};
+ghost use Rattle.std.specs.Prelude.{◌≡◌, ◌≤◌, length};
 
-use crate::front::{Front, at_front, place_after, to_front};
+use crate::error::InputError;
+use crate::front::{Front, at_front};
 use pipe::read_some;
-use std::io;
+use record::{Header, Kind};
+use std::io::Read;
 
 // What is read of the input and not handed out yet: the block's bytes from `from` up to `end`. The first of them is the input's byte number
-// `place`.
-#[derive(Clone, Copy)]
+// `place`. The block has room for the largest record, of 4,102 bytes, and for 32 KiB that are read ahead of it.
+#[derive(Drop)]
 pub struct Input {
-    pub from: usize,
-    pub end: usize,
+    block: [u8; 36870],
+    from: usize,
+    end: usize,
+    place: u64,
+    ended: bool,
+    ghost room: { length block ≡ 36870 },
+    ghost lies: { (from ≤ end) × (end ≤ length block) },
+}
+
+// A whole record, which begins at the input's byte number `place`.
+#[derive(Clone, Copy)]
+pub struct Record<'a> {
+    pub kind: Kind,
+    pub payload: &'a [u8],
     pub place: u64,
-    pub ended: bool,
 }
 
-// A whole record, header and payload: the block's bytes from `from` up to `end`. It begins at the input's byte number `place`, and what
-// follows it is `rest`.
-#[derive(Clone, Copy)]
-pub struct Record {
-    pub kind: u32,
-    pub from: usize,
-    pub end: usize,
-    pub place: u64,
-    pub rest: Input,
-}
+impl Input {
+    ghost use Rattle.std.specs.Prelude.{◌-◌, ◌<◌, false, take, drop};
+    ghost use Rattle.std.specs.Borrow.{sem};
+    ghost use Rattle.std.specs.Io.BufRead.{Rests};
+    ghost use Rattle.record_input.specs.contracts.reading.Input.{the_row};
+    ghost use Rattle.record_input.specs.Reading.{held_of, IsStart, Says, Found, Grew};
 
-#[derive(Clone, Copy)]
-pub enum Next {
-    Whole(Record),
-    End,
-    Refused { refusal: u32, place: u64 },
-    // A read failed.
-    Failed,
-}
-
-#[derive(Clone, Copy)]
-enum Read {
-    Held(Input),
-    Failed,
-}
-
-// An input of which nothing is read.
-pub fn start() -> Input
-    ensures { result ≡ start_of }
-{
-    Input {
-        from: 0,
-        end: 0,
-        place: 0,
-        ended: false,
-    }
-}
-
-// The next record. It stays in the block until the next call.
-pub fn next_record<R: io::Read>(stdin: &mut R, input: Input, block: &mut [u8]) -> Next
-    requires in_bounds { 4102 ≤ length block.old }
-    requires lies { Lies input block.old }
-    ensures { Says input.place result block.new }
-{
-    let mut held = input;
-    loop {
-        let from = held.from;
-        let end = held.end;
-        let front = at_front(&block[from..end], held.ended);
-        match front {
-            Front::Whole { kind, size } => return Next::Whole(record_at(held, kind, size)),
-            Front::End => return Next::End,
-            Front::Refused(refusal) => {
-                return Next::Refused {
-                    refusal,
-                    place: held.place,
-                };
-            }
-            Front::Begun => {}
+    // An input of which nothing is read.
+    pub fn new() -> Input
+        ensures { IsStart result }
+    {
+        Input {
+            block: [0; 36870],
+            from: 0,
+            end: 0,
+            place: 0,
+            ended: false,
         }
-        let Read::Held(after) = read_more(stdin, held, block) else {
-            return Next::Failed;
+    }
+
+    // The next record, or nothing at the input's end. The record stays in the block until the next call.
+    pub fn next_record<R: Read>(&mut self, stdin: &mut R) -> Result<Option<Record<'_>>, InputError>
+        ensures* says { sem 𝓛 (Rests the_row self.entry (λ new. Says self.old.place result new)) }
+    {
+        let Some(header) = self.find(stdin)? else {
+            return Ok(None);
         };
-        held = after;
+        let from = self.from + 6;
+        let size = header.size();
+        let end = self.from + size;
+        let place = self.place;
+        self.from = end;
+        self.place = place.saturating_add(size as u64);
+        Ok(Some(Record {
+            kind: header.kind,
+            payload: self.part(from, end),
+            place,
+        }))
     }
-}
 
-fn record_at(held: Input, kind: u32, size: usize) -> Record
-    requires { held.from + size ≤ held.end }
-    ensures { result ≡ taken_of held kind size }
-{
-    let end = held.from + size;
-    let rest = Input {
-        from: end,
-        end: held.end,
-        place: place_after(held.place, size),
-        ended: held.ended,
-    };
-    Record {
-        kind,
-        from: held.from,
-        end,
-        place: held.place,
-        rest,
+    // Reads until a whole record is at the front of what is held, or none follows.
+    fn find<R: Read>(&mut self, stdin: &mut R) -> Result<Option<Header>, InputError>
+        ensures { Found self.old.place result self.new }
+    {
+        loop {
+            match at_front(self.held(), self.ended) {
+                Ok(Front::Whole(header)) => return Ok(Some(header)),
+                Ok(Front::End) => return Ok(None),
+                Ok(Front::Begun) => self.read_more(stdin)?,
+                Err(refusal) => {
+                    return Err(InputError::Refused {
+                        refusal,
+                        place: self.place,
+                    });
+                }
+            }
+        }
     }
-}
 
-// One read behind what is held, which goes to the block's front first.
-fn read_more<R: io::Read>(stdin: &mut R, held: Input, block: &mut [u8]) -> Read
-    requires lies { Lies held block.old }
-    requires ended_value { (held.ended ≡ false) × (held.end - held.from < length block.old) }
-    ensures { Grew held result block.old block.new }
-{
-    let from = held.from;
-    let end = held.end;
-    to_front(from, end, block);
-    let left = end - from;
-    let Some(more) = read_some(stdin, &mut block[left..]) else {
-        return Read::Failed;
-    };
-    Read::Held(Input {
-        from: 0,
-        end: left + more,
-        place: held.place,
-        ended: more == 0,
-    })
+    fn held(&self) -> &[u8]
+        ensures { result.now ≡ held_of self.now }
+    {
+        self.part(self.from, self.end)
+    }
+
+    fn part(&self, from: usize, end: usize) -> &[u8]
+        requires in_bounds { (from ≤ end) × (end ≤ length self.now.block) }
+        ensures { result.now ≡ take (end - from) (drop from self.now.block) }
+    {
+        &self.block[from..end]
+    }
+
+    // One read behind what is held, which goes to the block's front first.
+    fn read_more<R: Read>(&mut self, stdin: &mut R) -> Result<(), InputError>
+        requires ended_value { (self.old.ended ≡ false) × (self.old.end - self.old.from < length self.old.block) }
+        ensures { Grew self.old result self.new }
+    {
+        let left = self.end - self.from;
+        self.block.copy_within(self.from..self.end, 0);
+        self.from = 0;
+        self.end = left;
+        let Some(more) = read_some(stdin, &mut self.block[left..]) else {
+            return Err(InputError::ReadFailed);
+        };
+        self.end = left + more;
+        self.ended = more == 0;
+        Ok(())
+    }
 }
