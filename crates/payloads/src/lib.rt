@@ -3,32 +3,29 @@
 // A refusal, and a read or a write that fails, get one line on standard error and end the run; what came before is written.
 #![tactic(auto)]
 
-use pipe::write_all;
+use pipe::Streams;
 use record::Kind;
-use record_input::{Input, RunError, say};
+use record_input::{Input, RecordsError, say};
 use std::io::{Read, Write};
 
-pub fn run<R: Read, W: Write, E: Write>(
-    stdin: &mut R,
-    stdout: &mut W,
-    stderr: &mut E,
-    kind: Kind,
-    program: &str,
-) {
-    if let Err(error) = copy(stdin, stdout, kind) {
-        say(stderr, program, error);
+pub fn run<R: Read, W: Write, E: Write>(streams: &mut Streams<R, W, E>, kind: Kind) {
+    if let Err(error) = copy(streams, kind) {
+        say(streams, error);
     }
 }
 
-// A proved loop has to end, and nothing says that the input does. So it counts its turns, up to a number that no run comes to.
-fn copy<R: Read, W: Write>(stdin: &mut R, stdout: &mut W, kind: Kind) -> Result<(), RunError> {
+fn copy<R: Read, W: Write, E: Write>(
+    streams: &mut Streams<R, W, E>,
+    kind: Kind,
+) -> Result<(), RecordsError> {
     let mut input = Input::new();
+    // Nothing says that the input ends, and a proved loop has to: no run comes to so many records.
     for _ in 0..u64::MAX {
-        let Some(record) = input.next_record(stdin)? else {
+        let Some(record) = input.next_record(&mut streams.input)? else {
             return Ok(());
         };
-        if record.kind == kind && !write_all(stdout, record.payload) {
-            return Err(RunError::WriteFailed);
+        if record.kind == kind {
+            streams.write_all(record.payload)?;
         }
     }
     Ok(())

@@ -11,8 +11,9 @@ use Rattle.refusal.specs.Refusal as refusals
 use Rattle.record.specs.declared.header.Header.{Header}
 use Rattle.record.specs.Kind.{number_of}
 use Rattle.record.specs.Reading.{read_of, payload_of}
-use Rattle.record_input.specs.declared.error.InputError.{InputError}
-use Rattle.record_input.specs.declared.error.InputError.TheVariants.{Refused, ReadFailed}
+use Rattle.pipe.specs.declared.program.ProgramError.TheVariants.{ReadFailed}
+use Rattle.record_input.specs.declared.error.RecordsError.{RecordsError}
+use Rattle.record_input.specs.declared.error.RecordsError.TheVariants.{Refused, Failed}
 use Rattle.record_input.specs.declared.reading.Input.{Input}
 use Rattle.record_input.specs.declared.reading.Record.{Record}
 use Rattle.record_input.specs.Front as fronts
@@ -34,19 +35,19 @@ pub record Handed (place : ℕ) (r : Record) (after : Input) : Type 0 where
   pub begins : r.place ≡ place
   pub goes_on : after.place ≡ place_after place (6 + length r.payload.now)
 
-abbrev pub Fails : ℕ → InputError → Input → Type 0
+abbrev pub Fails : ℕ → RecordsError → Input → Type 0
 Fails place (Refused refusal at) i = (at ≡ place) × (front_of (held_of i) i.ended ≡ fronts.Refused (refusals.number_of refusal))
-Fails place ReadFailed i = Unit
+Fails place (Failed error) i = error ≡ ReadFailed
 
 abbrev pub Ends : Input → Type 0
 Ends i = front_of (held_of i) i.ended ≡ fronts.End
 
-abbrev pub Says : ℕ → Result (Option Record) InputError → Input → Type 0
+abbrev pub Says : ℕ → Result (Option Record) RecordsError → Input → Type 0
 Says place (Ok (Some r)) i = Handed place r i
 Says place (Ok None) i = Ends i
 Says place (Err e) i = Fails place e i
 
-abbrev pub Found : ℕ → Result (Option Header) InputError → Input → Type 0
+abbrev pub Found : ℕ → Result (Option Header) RecordsError → Input → Type 0
 Found place (Ok (Some h)) i = (i.place ≡ place) × (read_of (held_of i) ≡ record { refusal = 0; kind = number_of h.kind; size = 6 + h.len })
 Found place (Ok None) i = Ends i
 Found place (Err e) i = Fails place e i
@@ -55,8 +56,8 @@ Found place (Err e) i = Fails place e i
 abbrev pub turns_of : Input → ℕ
 turns_of i = pick i.ended 0 (suc (length i.block - (i.end - i.from)))
 
-abbrev pub Grew : Input → Result Unit InputError → Input → Type 0
+abbrev pub Grew : Input → Result Unit RecordsError → Input → Type 0
 Grew i (Ok u) after =
     (after.place ≡ i.place)
     × ((take (i.end - i.from) (held_of after) ≡ held_of i) × (turns_of after < turns_of i))
-Grew i (Err e) after = e ≡ ReadFailed
+Grew i (Err e) after = e ≡ Failed ReadFailed

@@ -1,36 +1,31 @@
-// Why no record follows, why a run over records ends early, and what a program says of it on standard error.
+// Why a run over the records of a capture ends early.
+use pipe::{ProgramError, Streams};
 use refusal::Refusal;
 use std::fmt;
 use std::io::Write;
 
 #[derive(Clone, Copy, Debug, PartialEq, Eq)]
-pub enum InputError {
+pub enum RecordsError {
     // What begins at this place of the input is no record.
     Refused { refusal: Refusal, place: u64 },
-    ReadFailed,
+    Failed(ProgramError),
 }
 
-#[derive(Clone, Copy, Debug, PartialEq, Eq)]
-pub enum RunError {
-    Input(InputError),
-    WriteFailed,
-}
-
-impl From<InputError> for RunError {
-    fn from(error: InputError) -> RunError {
-        RunError::Input(error)
+impl From<ProgramError> for RecordsError {
+    fn from(error: ProgramError) -> RecordsError {
+        RecordsError::Failed(error)
     }
 }
 
-impl fmt::Display for InputError {
+impl fmt::Display for RecordsError {
     fn fmt<W: fmt::Write>(&self, f: &mut fmt::Formatter<W>) -> fmt::Result {
         match self {
-            InputError::Refused { refusal, place } => {
+            RecordsError::Refused { refusal, place } => {
                 let number = u32::from(*refusal);
                 let reason = reason(*refusal);
                 write!(f, "refusal {number} at byte {place}: {reason}")
             }
-            InputError::ReadFailed => write!(f, "a read failed"),
+            RecordsError::Failed(error) => write!(f, "{error}"),
         }
     }
 }
@@ -43,15 +38,7 @@ fn reason(refusal: Refusal) -> &'static str {
     }
 }
 
-impl fmt::Display for RunError {
-    fn fmt<W: fmt::Write>(&self, f: &mut fmt::Formatter<W>) -> fmt::Result {
-        match self {
-            RunError::Input(error) => write!(f, "{error}"),
-            RunError::WriteFailed => write!(f, "a write failed"),
-        }
-    }
-}
-
-pub fn say<W: Write>(stderr: &mut W, program: &str, error: RunError) {
-    let _ = writeln!(stderr, "{program}: {error}");
+// The program's name and the error, in a line on standard error.
+pub fn say<R, W, E: Write>(streams: &mut Streams<R, W, E>, error: RecordsError) {
+    let _ = writeln!(streams.errors, "{}: {error}", streams.program);
 }

@@ -8,5 +8,5 @@ mod error;
 mod front;
 mod reading;
 
-pub use error::{InputError, RunError, say};
+pub use error::{RecordsError, say};
 pub use reading::{Input, Record};

@@ -1,9 +1,9 @@
 // Reading.
 ghost use Rattle.std.specs.Prelude.{◌≡◌, ◌≤◌, length};
 
-use crate::error::InputError;
+use crate::error::RecordsError;
 use crate::front::{Front, at_front};
-use pipe::read_some;
+use pipe::{ProgramError, read_some};
 use record::{Header, Kind};
 use std::io::Read;
 
@@ -49,7 +49,7 @@ impl Input {
     }
 
     // The next record, or nothing at the input's end. The record stays in the block until the next call.
-    pub fn next_record<R: Read>(&mut self, stdin: &mut R) -> Result<Option<Record<'_>>, InputError>
+    pub fn next_record<R: Read>(&mut self, stdin: &mut R) -> Result<Option<Record<'_>>, RecordsError>
         ensures* says { sem 𝓛 (Rests the_row self.entry (λ new. Says self.old.place result new)) }
     {
         let Some(header) = self.find(stdin)? else {
@@ -69,7 +69,7 @@ impl Input {
     }
 
     // Reads until a whole record is at the front of what is held, or none follows.
-    fn find<R: Read>(&mut self, stdin: &mut R) -> Result<Option<Header>, InputError>
+    fn find<R: Read>(&mut self, stdin: &mut R) -> Result<Option<Header>, RecordsError>
         ensures { Found self.old.place result self.new }
     {
         loop {
@@ -78,7 +78,7 @@ impl Input {
                 Ok(Front::End) => return Ok(None),
                 Ok(Front::Begun) => self.read_more(stdin)?,
                 Err(refusal) => {
-                    return Err(InputError::Refused {
+                    return Err(RecordsError::Refused {
                         refusal,
                         place: self.place,
                     });
@@ -101,7 +101,7 @@ impl Input {
     }
 
     // One read behind what is held, which goes to the block's front first.
-    fn read_more<R: Read>(&mut self, stdin: &mut R) -> Result<(), InputError>
+    fn read_more<R: Read>(&mut self, stdin: &mut R) -> Result<(), RecordsError>
         requires ended_value { (self.old.ended ≡ false) × (self.old.end - self.old.from < length self.old.block) }
         ensures { Grew self.old result self.new }
     {
@@ -110,7 +110,7 @@ impl Input {
         self.from = 0;
         self.end = left;
         let Some(more) = read_some(stdin, &mut self.block[left..]) else {
-            return Err(InputError::ReadFailed);
+            return Err(RecordsError::Failed(ProgramError::ReadFailed));
         };
         self.end = left + more;
         self.ended = more == 0;

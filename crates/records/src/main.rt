@@ -9,44 +9,52 @@ ghost use Rattle.record.specs.Kind.{number_of};
 ghost use Rattle.records.specs.Line.{What, Line};
 ghost use Rattle.text.specs.Text.{Appended};
 
-use pipe::write_all;
+use pipe::{ProgramError, Streams};
 use record::Kind;
-use record_input::{Input, RunError, say};
+use record_input::{Input, RecordsError, say};
 use std::io::{Read, Write};
 use text::{put, put_decimal};
 
 fn main(rt: HostRuntime) {
-    let mut stdin = rt.stdin();
-    let mut stdout = rt.stdout();
-    let mut stderr = rt.stderr();
-    if let Err(error) = run(&mut stdin, &mut stdout) {
-        say(&mut stderr, "records", error);
+    let mut streams = Streams {
+        program: "records",
+        input: rt.stdin(),
+        output: rt.stdout(),
+        errors: rt.stderr(),
+    };
+    if let Err(error) = run(&mut streams) {
+        say(&mut streams, error);
     }
 }
 
-fn run<R: Read, W: Write>(stdin: &mut R, stdout: &mut W) -> Result<(), RunError> {
+fn run<R: Read, W: Write, E: Write>(streams: &mut Streams<R, W, E>) -> Result<(), RecordsError> {
     let mut input = Input::new();
+    // The largest number is not counted up: no run comes to so many records.
     for number in 0..u64::MAX {
-        let Some(record) = input.next_record(stdin)? else {
+        let Some(record) = input.next_record(&mut streams.input)? else {
             return Ok(());
         };
-        if !show(
-            stdout,
+        show(
+            streams,
             number,
             record.place,
             record.kind,
             record.payload.len(),
-        ) {
-            return Err(RunError::WriteFailed);
-        }
+        )?;
     }
     Ok(())
 }
 
-fn show<W: Write>(stdout: &mut W, number: u64, place: u64, kind: Kind, size: usize) -> bool {
+fn show<R: Read, W: Write, E: Write>(
+    streams: &mut Streams<R, W, E>,
+    number: u64,
+    place: u64,
+    kind: Kind,
+    size: usize,
+) -> Result<(), ProgramError> {
     let mut line = [0u8; 80];
     let end = put_line(number, place, kind, size, &mut line);
-    write_all(stdout, &line[..end])
+    streams.write_all(&line[..end])
 }
 
 // The line of a record whose payload has `size` bytes. Two numbers, what the record is, a blank and the line's end are 70 bytes at most.

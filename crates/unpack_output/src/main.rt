@@ -1,17 +1,15 @@
 // The output samples of a capture of records.
 #![tactic(auto)]
 
+use pipe::Streams;
 use record::Kind;
 
 fn main(rt: HostRuntime) {
-    let mut stdin = rt.stdin();
-    let mut stdout = rt.stdout();
-    let mut stderr = rt.stderr();
-    payloads::run(
-        &mut stdin,
-        &mut stdout,
-        &mut stderr,
-        Kind::Output,
-        "unpack",
-    );
+    let mut streams = Streams {
+        program: "unpack",
+        input: rt.stdin(),
+        output: rt.stdout(),
+        errors: rt.stderr(),
+    };
+    payloads::run(&mut streams, Kind::Output);
 }

@@ -6,10 +6,12 @@
 #![tactic(auto)]
 
 ghost use Rattle.std.specs.Result.{is_ok};
+ghost use Rattle.record.specs.Kind.{number_of};
 ghost use Rattle.why_records.specs.Called.{Called};
 
 use pipe::{ProgramError, Streams};
-use record_input::Next;
+use record::Kind;
+use record_input::{Input, say};
 use std::io::{Read, Write};
 use watch::Watch;
 
@@ -27,22 +29,22 @@ fn main(rt: HostRuntime) {
 
 fn run<R: Read, W: Write, E: Write>(streams: &mut Streams<R, W, E>) -> Result<(), ProgramError> {
     let mut watch = Watch::new();
-    let mut block = [0u8; 36870];
-    let mut input = record_input::start();
+    let mut input = Input::new();
     // Nothing says that the input ends, and a proved loop has to: no run comes to so many records.
     for _ in 0..u64::MAX {
-        let next = record_input::next_record(&mut streams.input, input, &mut block);
-        let Next::Whole(record) = next else {
-            let finished = watch.finish(streams);
-            if let Err(error) = finished {
-                streams.say(error);
+        let record = match input.next_record(&mut streams.input) {
+            Ok(Some(record)) => record,
+            Ok(None) => break,
+            Err(error) => {
+                let finished = watch.finish(streams);
+                if let Err(error) = finished {
+                    streams.say(error);
+                }
+                say(streams, error);
+                return Ok(());
             }
-            record_input::say(&mut streams.errors, b"why", next);
-            return Ok(());
         };
-        let payload = record::payload(&block[record.from..record.end]);
-        call(streams, &mut watch, record.kind, payload)?;
-        input = record.rest;
+        call(streams, &mut watch, record.kind, record.payload)?;
     }
     watch.finish(streams)
 }
@@ -51,15 +53,15 @@ fn run<R: Read, W: Write, E: Write>(streams: &mut Streams<R, W, E>) -> Result<()
 fn call<R: Read, W: Write, E: Write>(
     streams: &mut Streams<R, W, E>,
     watch: &mut Watch,
-    kind: u32,
+    kind: Kind,
     payload: &[u8],
 ) -> Result<(), ProgramError>
-    ensures { Called kind payload.now watch.old (is_ok result) watch.new }
+    ensures { Called (number_of kind) payload.now watch.old (is_ok result) watch.new }
 {
     match kind {
-        1 => watch.pairs(streams, payload),
-        3 => watch.flush(streams),
-        4 => watch.reset(streams),
-        _ => Ok(()),
+        Kind::Pairs => watch.pairs(streams, payload),
+        Kind::Output => Ok(()),
+        Kind::Flush => watch.flush(streams),
+        Kind::Reset => watch.reset(streams),
     }
 }
