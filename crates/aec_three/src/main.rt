@@ -1,4 +1,4 @@
-// The same program, run on three pairs, document 01's own case.
+// The same program, run on three pairs, document 01's own case: a crate of its own, since each has one `stdin` and one `stdout`.
 #![tactic(auto)]
 
 use pipe::Streams;

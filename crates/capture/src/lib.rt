@@ -13,6 +13,7 @@ use tau::Answer;
 use tau_state::state::TauCanceller;
 
 // The whole pairs of `held`, at most 4,096 of them, are processed. What they deliver stands at the front of `bytes`, four a sample.
+// These two take lent buffers of any length, as TauCanceller's own calls do; `Engine` has them beside the state.
 pub fn feed(
     s: TauCanceller,
     shadow: &mut [f64],

@@ -23,7 +23,8 @@ fn drive<R: Read, W: Write, E: Write>(streams: &mut Streams<R, W, E>) -> Result<
     let mut engine = Engine::new();
     let mut block = [0u8; 32776];
     let mut left = 0;
-    // Nothing says that the input ends, and a proved loop has to: no run comes to so many reads.
+    // Nothing says that the input ends, and a proved loop has to: no run comes to so many reads. Programs `pack` and `why` have such a
+    // loop each, with another read, turn and end: one for all would be as long, with clauses on a closure.
     for _ in 0..u64::MAX {
         let more = streams.read(&mut block[left..left + 32768]);
         if more == 0 {

@@ -3,7 +3,7 @@ ghost use Rattle.std.specs.Prelude.{◌≡◌, ◌<◌};
 ghost use Rattle.wire.specs.Wire.{byte_of};
 ghost use Rattle.wire.specs.Promises.{WriteSamples};
 
-// The samples' bytes in a row, as many as there is room for.
+// The samples' bytes in a row, as many as there is room for: byte by byte, since of the last sample there may be room for a part.
 pub fn write_samples(samples: &[f32], bytes: &mut [u8])
     ensures { WriteSamples samples.now bytes.old bytes.new }
 {
