@@ -2,39 +2,16 @@
 #![tactic(auto, unfolding(laws::specs::Choice::pick, crate::specs::Sample::loud_of, crate::specs::Sample::freeze_of, crate::specs::Sample::smooth_of))]
 
 ghost use Rattle.std.specs.Prelude.{◌≡◌, ◌<◌, length};
-ghost use Rattle.std.specs.Float.{binary64};
-ghost use Rattle.std.specs.Float.Ieee.{sub};
-ghost use Rattle.rho_taps.specs.Ring.{estimate_of, window_energy_of};
 ghost use Rattle.rho_sample.specs.Sample.{loud_of, freeze_of, smooth_of, step_of};
 
 use rho_state::state::RhoCanceller;
-use rho_taps::peak::peak_at;
+use rho_taps::peak::peak;
 use rho_taps::ring::{next_position, sums_of};
 use rho_taps::update::adapt;
 
 const GEIGEL_THRESHOLD: f32 = 0.5;
 
 const ERLE_SMOOTHING: f64 = 0.999;
-
-// What the filter makes of the pair.
-#[derive(Clone, Copy)]
-pub struct Judged {
-    pub error: f64,
-    pub energy: f64,
-}
-
-fn judge(near: f32, weights: &[f32], history: &[f32], pos: usize) -> Judged
-    requires weights_len { length weights.now ≡ length history.now }
-    requires pos_in_bounds { pos < length history.now }
-    ensures error_value { result.error ≡ sub binary64 near (estimate_of weights.now history.now pos (length history.now)) }
-    ensures energy_value { result.energy ≡ window_energy_of history.now pos (length history.now) }
-{
-    let sums = sums_of(weights, history, pos);
-    Judged {
-        error: numbers::widen(near) - sums.estimate,
-        energy: sums.energy,
-    }
-}
 
 // The product is an f32 product: at a subnormal peak it rounds.
 fn is_loud(near: f32, peak: f32) -> bool
@@ -75,16 +52,17 @@ pub fn step(
 {
     let pos = next_position(state.pos, state.taps);
     history[pos] = far;
-    let judged = judge(near, weights, history, pos);
-    let output = numbers::narrow(judged.error);
+    let sums = sums_of(weights, history, pos);
+    let error = numbers::widen(near) - sums.estimate;
+    let output = numbers::narrow(error);
     let fine = numbers::is_finite32(output);
-    let loud = is_loud(near, peak_at(history, pos));
+    let loud = is_loud(near, peak(history));
     let left = freeze(state.hangover_samples, state.hangover_remaining, loud);
     state.divergence_resets = adapt(
         fine,
         left,
-        judged.error,
-        judged.energy,
+        error,
+        sums.energy,
         history,
         pos,
         weights,

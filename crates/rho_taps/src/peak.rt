@@ -3,21 +3,14 @@
 // any order.
 #![tactic(auto, unfolding(laws::specs::Choice::pick, crate::specs::Peak::greater_of, crate::specs::Peak::with_size))]
 
-ghost use Rattle.std.specs.Prelude.{◌≡◌, ◌*◌, ◌≤◌, ◌<◌, length};
+ghost use Rattle.std.specs.Prelude.{◌≡◌, ℕ, ◌*◌, ◌≤◌, ◌<◌, length};
 ghost use Rattle.rho_taps.specs.Ring.{peak_of};
 ghost use Rattle.rho_taps.specs.Peak.{peak_up, greater_of, with_size, onward_of, lanes_of};
 
-// The peak as it is defined, newest first around the ring. No order changes it, so `pos` is not used.
-pub fn peak_at(history: &[f32], pos: usize) -> f32
-    requires { pos < length history.now }
-    ensures { result ≡ peak_of history.now pos (length history.now) }
-{
-    peak(history)
-}
-
-// The greatest size in `history`, or 0.0 where there is none. A NaN is ignored.
+// The greatest size in `history`, or 0.0 where there is none; a NaN is ignored. Around the ring from any place it is the same.
 pub fn peak(history: &[f32]) -> f32
-    ensures { result ≡ peak_up history.now }
+    ensures value { result ≡ peak_up history.now }
+    ensures around_ring { (pos : ℕ) → pos < length history.now → result ≡ peak_of history.now pos (length history.now) }
 {
     let n = history.len() / 16;
     let p = lanes(history, n);

@@ -1,4 +1,4 @@
-use Rattle.std.proofs.Common.{◌∙◌, length-set}
+use Rattle.std.proofs.Common.{◌∙◌, length-set, arith}
 use Rattle.rho_sample.specs.Sample.{after_of}
 use Rattle.rho_sample.proofs.Steps.{step_is}
 use Rattle.rho_sample.proofs.sample.step.Goals as goal
@@ -8,11 +8,11 @@ unfolding after_of
 returns c = step_is _ _ _ _ _ _ _ _ _ _ _ _ _ _ _ _
     c.next_position-pos.ensures.value
     (length-set c.args.history.now c.next_position-pos.result c.args.far ∙ c.requires.history_len)
-    c.judge-judged.ensures.error_value
-    c.judge-judged.ensures.energy_value
+    (rw (c.widen.ensures, c.sums_of-sums.ensures.estimate_value))
+    c.sums_of-sums.ensures.energy_value
     c.narrow-output.ensures
     c.is_finite32-fine.ensures
-    c.peak_at.ensures
+    (c.peak.ensures.around_ring _ (omega (arith, c.next_position-pos.ensures.upper_bound, length-set c.args.history.now c.next_position-pos.result c.args.far)))
     c.is_loud-loud.ensures
     c.freeze-left.ensures
     c.adapt-state.ensures
