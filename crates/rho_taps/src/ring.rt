@@ -1,5 +1,6 @@
 // Sums over the far history, newest first: from `pos` down to 0, then from the top down. Each is a straight run, so that the loops
-// have no test of where they are.
+// have no test of where they are. `history` and `pos` stay two parameters: of a struct the clauses would read `ring.entry.samples.now` and
+// `ring.entry.pos` where they read `history.now` and `pos`.
 ghost use Rattle.std.specs.Prelude.{◌≡◌, true, ◌<◌, length};
 ghost use Rattle.rho_taps.specs.Ring.{next_of, estimate_of, window_energy_of};
 ghost use Rattle.rho_taps.specs.Runs.{NoNan, estimate_from, energy_from};

@@ -66,6 +66,7 @@ fn widened_products<const CLEAN: bool>(scale: f64, samples: &[f32]) -> [f64; 32]
     products
 }
 
+// By place, and not over `iter_mut` with a `zip`, of which no contract says what the weights then hold.
 fn add_steps(steps: &[f32; 32], weights: &mut [f32]) -> bool
     requires { length weights.old ≡ 32 }
     ensures weights_after { weights.new ≡ over 32 (λ k weight. add binary32 weight (get_or steps.now k nan)) weights.old }
