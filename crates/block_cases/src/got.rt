@@ -1,7 +1,6 @@
 // What a line comes to.
 use tau_lines::{halves, numbers_of};
-use tau_run::Blocked;
-use tau_state::report::{leak_of, number, outcome_of, reason_number};
+use tau_state::report::{Told, leak_of, outcome_of};
 use tau_state::state::TauCanceller;
 
 // What a line comes to, but for the lent buffers: where there is a step as it says, the state, and the last block's outcome and reason by
@@ -17,19 +16,16 @@ pub struct Got {
     pub overs: u64,
 }
 
-pub fn after(b: Blocked) -> Got {
-    let state = b.state;
-    let block = b.block;
-    let told = b.told;
+pub fn after(state: TauCanceller, block: [f32; 256], told: Told) -> Got {
     let reason = told.reason;
     let outcome = outcome_of(reason);
     Got {
         is_known: true,
         state,
-        outcome: number(outcome) as u64,
+        outcome: u64::from(u32::from(outcome)),
         leak: numbers::to_bits(leak_of(outcome)),
         hash: hash_of_block(block),
-        reason: reason_number(reason) as u64,
+        reason: u64::from(u32::from(reason)),
         overs: told.overs as u64,
     }
 }

@@ -11,6 +11,7 @@ ghost use Rattle.std.specs.Prelude.{◌≡◌, ◌≤◌, ◌<◌, length};
 
 use crate::got::{Got, after, kept, unknown};
 use crate::made::{Sounds, heard};
+use tau_block::MicBlock;
 use tau_lines::{fresh, set};
 use tau_state::state::TauCanceller;
 
@@ -169,7 +170,15 @@ fn lent(
     if powers.len() != 257 * partitions {
         return unknown(state);
     }
-    after(tau_run::run_block(
-        state, near, far, valid, adapt, shadow, output, spectra, powers,
-    ))
+    let given = MicBlock {
+        near: &near,
+        valid,
+        adapt,
+    };
+    let mut state = state;
+    let mut block = [0.0f32; 256];
+    let told = tau_run::run_block(
+        &mut state, &far, &given, &mut block, shadow, output, spectra, powers,
+    );
+    after(state, block, told)
 }

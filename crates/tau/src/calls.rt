@@ -1,14 +1,12 @@
 // The public calls. A state goes in by value and comes back; the buffers are lent. A refused call writes nothing.
 ghost use Rattle.std.specs.Prelude.{◌≡◌, length};
-ghost use Rattle.tau_state.specs.Lent.{suppressor_of, whole_of};
-ghost use Rattle.tau_frame.specs.Lent.{engine_of};
+ghost use Rattle.tau_run.specs.Ran.{engine_of};
 ghost use Rattle.tau.specs.Calls.{process_refusal, flush_refusal, answer_of, reported_of, process_of, flush_of};
 ghost use Rattle.tau.specs.Promises.{Create, Process, Flush, Reset};
 
 use tau_frame::{Framed, flush_block, run, stay, wait};
 use tau_fresh::fresh::{clear_all, empty, fresh};
 use tau_fresh::refusals::{create_refusal, flush_refusal, process_refusal, state_refusal};
-use tau_state::lent::{Rest, rest_of, whole};
 use tau_state::report::{Last, Report, report_of};
 use tau_state::state::TauCanceller;
 
@@ -103,18 +101,10 @@ pub fn reset(
     }
 }
 
-// A process over the state taken apart. Refused, it changes nothing; where no block is filled, its pairs wait.
-fn process_lent(
+// A process over the state in place. Refused, it changes nothing; where no block is filled, its pairs wait.
+fn process_in_place(
     refusal: u32,
-    start: Rest,
-    near_carry: &mut [f32; 256],
-    far_carry: &mut [f32; 256],
-    far_window: &mut [f32; 512],
-    means: &mut [f64; 257],
-    echo: &mut [f64; 257],
-    err: &mut [f64; 257],
-    gain: &mut [f64; 257],
-    window: &mut [f32; 512],
+    state: &mut TauCanceller,
     shadow: &mut [f64],
     output: &mut [f64],
     spectra: &mut [f64],
@@ -123,20 +113,16 @@ fn process_lent(
     far: &[f32],
     out: &mut [f32],
 ) -> Framed
-    requires near_carry_len { (length near_carry.old ≡ 256) × (length far_carry.old ≡ 256) }
-    requires refusal_value { refusal ≡ process_refusal (whole_of start near_carry.old far_carry.old far_window.old means.old (suppressor_of echo.old err.old gain.old window.old)) (length shadow.old) (length output.old) (length spectra.old) (length powers.old) (length near.now) (length far.now) (length out.old) }
-    ensures { record { answer = answer_of refusal result.delivered (whole_of result.rest near_carry.new far_carry.new far_window.new means.new (suppressor_of echo.new err.new gain.new window.new)) result.last; shadow = shadow.new; output = output.new; spectra = spectra.new; powers = powers.new; out = out.new } ≡ process_of (engine_of start near_carry.old far_carry.old far_window.old means.old (suppressor_of echo.old err.old gain.old window.old) shadow.old output.old spectra.old powers.old) near.now far.now out.old }
+    requires { refusal ≡ process_refusal state.old (length shadow.old) (length output.old) (length spectra.old) (length powers.old) (length near.now) (length far.now) (length out.old) }
+    ensures { record { answer = answer_of refusal result.delivered state.new result.last; shadow = shadow.new; output = output.new; spectra = spectra.new; powers = powers.new; out = out.new } ≡ process_of (engine_of state.old shadow.old output.old spectra.old powers.old) near.now far.now out.old }
 {
     if refusal != 0 {
-        return stay(start);
+        return stay();
     }
-    if start.carried + near.len() < 256 {
-        return wait(start, near_carry, far_carry, near, far);
+    if state.carried + near.len() < 256 {
+        return wait(state, near, far);
     }
-    run(
-        start, near_carry, far_carry, far_window, means, echo, err, gain, window, shadow, output,
-        spectra, powers, near, far, out,
-    )
+    run(state, shadow, output, spectra, powers, near, far, out)
 }
 
 // `process` without its report.
@@ -162,51 +148,15 @@ pub fn process_unreported(
         far.len(),
         out.len(),
     );
-    let mut near_carry = s.near_carry;
-    let mut far_carry = s.far_carry;
-    let mut far_window = s.far.window;
-    let mut means = s.mic.far_power_mean;
-    let mut echo = s.mic.suppressor.echo_power;
-    let mut err = s.mic.suppressor.error_power;
-    let mut gain = s.mic.suppressor.gain;
-    let mut window = s.mic.suppressor.error_window;
-    let framed = process_lent(
-        refusal,
-        rest_of(s),
-        &mut near_carry,
-        &mut far_carry,
-        &mut far_window,
-        &mut means,
-        &mut echo,
-        &mut err,
-        &mut gain,
-        &mut window,
-        shadow,
-        output,
-        spectra,
-        powers,
-        near,
-        far,
-        out,
+    let mut state = s;
+    let framed = process_in_place(
+        refusal, &mut state, shadow, output, spectra, powers, near, far, out,
     );
-    let state = whole(
-        s,
-        framed.rest,
-        near_carry,
-        far_carry,
-        far_window,
-        means,
-        echo,
-        err,
-        gain,
-        window,
-    );
-    let last = framed.last;
     Unreported {
         refusal,
         delivered: framed.delivered,
         state,
-        last,
+        last: framed.last,
     }
 }
 
@@ -225,34 +175,23 @@ pub fn process(
     answer_of(process_unreported(s, shadow, output, spectra, powers, near, far, out))
 }
 
-// A flush over the state taken apart. Refused, it changes nothing.
-fn flush_lent(
+// A flush over the state in place. Refused, it changes nothing.
+fn flush_in_place(
     refusal: u32,
-    start: Rest,
-    near_carry: &[f32; 256],
-    far_carry: &[f32; 256],
-    far_window: &mut [f32; 512],
-    means: &mut [f64; 257],
-    echo: &mut [f64; 257],
-    err: &mut [f64; 257],
-    gain: &mut [f64; 257],
-    window: &mut [f32; 512],
+    state: &mut TauCanceller,
     shadow: &mut [f64],
     output: &mut [f64],
     spectra: &mut [f64],
     powers: &mut [f64],
     out: &mut [f32],
 ) -> Framed
-    requires { refusal ≡ flush_refusal (whole_of start near_carry.now far_carry.now far_window.old means.old (suppressor_of echo.old err.old gain.old window.old)) (length shadow.old) (length output.old) (length spectra.old) (length powers.old) (length out.old) }
-    ensures { record { answer = answer_of refusal result.delivered (whole_of result.rest near_carry.now far_carry.now far_window.new means.new (suppressor_of echo.new err.new gain.new window.new)) result.last; shadow = shadow.new; output = output.new; spectra = spectra.new; powers = powers.new; out = out.new } ≡ flush_of (engine_of start near_carry.now far_carry.now far_window.old means.old (suppressor_of echo.old err.old gain.old window.old) shadow.old output.old spectra.old powers.old) out.old }
+    requires { refusal ≡ flush_refusal state.old (length shadow.old) (length output.old) (length spectra.old) (length powers.old) (length out.old) }
+    ensures { record { answer = answer_of refusal result.delivered state.new result.last; shadow = shadow.new; output = output.new; spectra = spectra.new; powers = powers.new; out = out.new } ≡ flush_of (engine_of state.old shadow.old output.old spectra.old powers.old) out.old }
 {
     if refusal != 0 {
-        return stay(start);
+        return stay();
     }
-    flush_block(
-        start, near_carry, far_carry, far_window, means, echo, err, gain, window, shadow, output,
-        spectra, powers, out,
-    )
+    flush_block(state, shadow, output, spectra, powers, out)
 }
 
 // `flush` without its report.
@@ -274,49 +213,13 @@ pub fn flush_unreported(
         powers.len(),
         out.len(),
     );
-    let near_carry = s.near_carry;
-    let far_carry = s.far_carry;
-    let mut far_window = s.far.window;
-    let mut means = s.mic.far_power_mean;
-    let mut echo = s.mic.suppressor.echo_power;
-    let mut err = s.mic.suppressor.error_power;
-    let mut gain = s.mic.suppressor.gain;
-    let mut window = s.mic.suppressor.error_window;
-    let framed = flush_lent(
-        refusal,
-        rest_of(s),
-        &near_carry,
-        &far_carry,
-        &mut far_window,
-        &mut means,
-        &mut echo,
-        &mut err,
-        &mut gain,
-        &mut window,
-        shadow,
-        output,
-        spectra,
-        powers,
-        out,
-    );
-    let state = whole(
-        s,
-        framed.rest,
-        near_carry,
-        far_carry,
-        far_window,
-        means,
-        echo,
-        err,
-        gain,
-        window,
-    );
-    let last = framed.last;
+    let mut state = s;
+    let framed = flush_in_place(refusal, &mut state, shadow, output, spectra, powers, out);
     Unreported {
         refusal,
         delivered: framed.delivered,
         state,
-        last,
+        last: framed.last,
     }
 }
 

@@ -1,30 +1,26 @@
 // A microphone's part of a block: document 01's steps 2, 3 and 5 to 9. A condition of a step goes to it as a `bool`, so that nothing
 // branches here.
-ghost use Rattle.std.specs.Prelude.{◌≡◌, [], ◌≤◌, ◌<◌, ◌*◌, length};
-ghost use Rattle.trig.specs.Tables.{recombination};
-ghost use Rattle.tau_state.specs.Lent.{suppressor_of, mic_of};
-ghost use Rattle.tau_spectra.specs.Ring.{ring_of};
-ghost use Rattle.tau_filter.specs.Lent.{estimated_lent};
+ghost use Rattle.std.specs.Prelude.{◌≡◌, [], ◌≤◌, ◌*◌, length};
+ghost use Rattle.tau_spectra.specs.FarRing.{ring_in};
+ghost use Rattle.tau_filter.specs.Lent.{estimated_of};
+ghost use Rattle.tau_update.specs.Update.{updated};
 ghost use Rattle.tau_block.specs.Block.{listen};
 ghost use Rattle.tau_block.specs.Groups.{filtered, compares, delivered};
-ghost use Rattle.tau_block.specs.Lent.{filtered_of, judgement_of, delivered_of, playing_of, mic_block, microphone_of, listened_of, no_suppressor, bare};
+ghost use Rattle.tau_block.specs.Given.{playing_in, block_in};
+ghost use Rattle.tau_block.specs.Left.{filtered_of, judgement_of, updated_of, delivered_of, listened_of, FiltersOnly, JudgesOnly, UpdatesOnly, DeliversOnly};
 
-use tau_detector::lent::double_talk_block;
-use tau_filter::lent::{Checked, output_estimate, shadow_estimate};
-use tau_guard::lent::{guard, host_powers};
-use tau_paths::lent::{Compared, compare};
-use tau_paths::paths::Conditions;
+use crate::given::{MicBlock, Played};
+use tau_detector::detector::double_talk_block;
+use tau_filter::filter::{Checked, output_estimate, shadow_estimate};
+use tau_guard::guard::guard;
+use tau_guard::powers::host_powers;
+use tau_paths::paths::{Compared, Conditions, compare};
+use tau_spectra::transform::Transform;
 use tau_state::report::Told;
-use tau_state::state::{DTD_ESTABLISH_BLOCKS, Detector, Guard, MicRest, Paths, Powers};
+use tau_state::state::{DTD_ESTABLISH_BLOCKS, Mic};
 use tau_state::sums::energy;
-use tau_suppressor::lent::suppress;
-use tau_update::lent::adapt_shadow;
-
-#[derive(Clone, Copy)]
-pub struct Judged {
-    pub detector: Detector,
-    pub compared: Compared,
-}
+use tau_suppressor::suppressor::suppress;
+use tau_update::update::adapt_shadow;
 
 #[derive(Clone, Copy)]
 pub struct BothChecked {
@@ -32,321 +28,223 @@ pub struct BothChecked {
     pub output: Checked,
 }
 
+// The spectrum of the output's estimate, and the shadow's estimate with its error.
 #[derive(Clone, Copy)]
-pub struct DeliveredRest {
-    pub guard: Guard,
-    pub paths: Paths,
-    pub divergence_resets: u64,
-    pub powers: Powers,
-    pub overs: u32,
-}
-
-#[derive(Clone, Copy)]
-pub struct ListenedRest {
-    pub mic: MicRest,
-    pub told: Told,
+pub struct Estimates {
+    pub bins: [f64; 514],
+    pub estimate: [f32; 256],
+    pub shadow_error: [f32; 256],
 }
 
 // Steps 2 and 3.
+#[tactic(auto, unfolding(crate::specs::Groups::filtered))]
 fn filter(
-    table: &[f64; 514],
-    scratch: &mut [f64; 1024],
-    bins: &mut [f64; 514],
-    parts: usize,
-    head: usize,
-    spectra: &[f64],
-    near: &[f32; 256],
-    mic: MicRest,
-    echo_power: &mut [f64; 257],
-    error_power: &mut [f64; 257],
-    gain: &mut [f64; 257],
-    window: &[f32; 512],
-    estimate: &mut [f32; 256],
-    shadow_error: &mut [f32; 256],
-    block: &mut [f32; 256],
+    transform: &mut Transform,
+    played: &Played,
+    given: &MicBlock,
+    mic: &mut Mic,
+    estimates: &mut Estimates,
+    error: &mut [f32; 256],
     shadow: &mut [f64],
     output: &mut [f64],
 ) -> BothChecked
-    requires table_value { table.now ≡ recombination }
-    requires shadow_len { (length shadow.old ≡ 514 * parts) × (length output.old ≡ 514 * parts) × (length spectra.now ≡ 514 * parts) × (head < parts) × (parts ≤ 32) }
-    ensures { filtered_of result.shadow result.output estimate.new shadow_error.new (suppressor_of echo_power.new error_power.new gain.new window.now) bins.new block.new shadow.new output.new ≡ filtered (ring_of parts head spectra.now) near.now (mic_of mic [] (suppressor_of echo_power.old error_power.old gain.old window.now)) shadow.old output.old }
+    requires shadow_len { length shadow.old ≡ 514 * played.now.ring.partitions }
+    requires output_len { length output.old ≡ 514 * played.now.ring.partitions }
+    ensures filtered { filtered_of result mic.new estimates.new error.new shadow.new output.new ≡ filtered (ring_in played.now.ring) given.now.near.now mic.old shadow.old output.old }
+    ensures others_stay { FiltersOnly mic.old mic.new }
 {
-    let paths = mic.paths;
-    let resets = mic.divergence_resets;
-    let shadow_checked = shadow_estimate(
-        table,
-        scratch,
-        bins,
-        parts,
-        head,
-        spectra,
-        near,
-        paths,
-        resets,
-        estimate,
-        shadow_error,
-        shadow,
-    );
-    let paths_left = shadow_checked.paths;
-    let resets_left = shadow_checked.divergence_resets;
-    let output_checked = output_estimate(
-        table,
-        scratch,
-        bins,
-        parts,
-        head,
-        spectra,
-        near,
-        paths_left,
-        resets_left,
-        echo_power,
-        error_power,
-        gain,
-        window,
-        block,
-        shadow,
-        output,
-    );
     BothChecked {
-        shadow: shadow_checked,
-        output: output_checked,
+        shadow: shadow_estimate(
+            transform,
+            &played.ring,
+            given.near,
+            &mut mic.paths,
+            &mut mic.divergence_resets,
+            &mut estimates.bins,
+            &mut estimates.estimate,
+            &mut estimates.shadow_error,
+            shadow,
+        ),
+        output: output_estimate(
+            transform,
+            &played.ring,
+            given.near,
+            &mut mic.paths,
+            &mut mic.suppressor,
+            &mut mic.divergence_resets,
+            &mut estimates.bins,
+            error,
+            shadow,
+            output,
+        ),
     }
 }
 
 // Step 5. A flush, a divergence, a far end that does not drive the block: each keeps the two paths as they are.
+#[tactic(auto, unfolding(crate::specs::Groups::compares))]
 fn judge(
-    adapt: bool,
-    active: bool,
-    near: &[f32; 256],
+    played: &Played,
+    given: &MicBlock,
     near_energy: f64,
-    valid: usize,
-    checked: BothChecked,
-    mic: MicRest,
-    estimate: &[f32; 256],
-    shadow_error: &[f32; 256],
+    checked: &BothChecked,
+    mic: &mut Mic,
+    estimates: &Estimates,
     error: &[f32; 256],
     shadow: &mut [f64],
     output: &mut [f64],
-) -> Judged
-    requires valid_bound { valid ≤ 256 }
-    requires shadow_len { length shadow.old ≡ length output.old }
-    ensures { judgement_of result shadow.new output.new ≡ compares adapt active near.now near_energy valid (filtered_of checked.shadow checked.output estimate.now shadow_error.now no_suppressor [] error.now shadow.old output.old) (bare mic) }
+) -> Compared
+    requires { length shadow.old ≡ length output.old }
+    ensures judged { judgement_of result mic.new shadow.new output.new ≡ compares given.now.adapt played.now.active given.now.near.now near_energy given.now.valid (filtered_of checked.now mic.old estimates.now error.now shadow.old output.old) mic.old }
+    ensures others_stay { JudgesOnly mic.old mic.new }
 {
-    let output_checked = checked.output;
-    let detector = double_talk_block(mic.detector, active, near_energy, near, estimate, valid);
+    let MicBlock { near, valid, adapt } = *given;
+    double_talk_block(
+        &mut mic.detector,
+        played.active,
+        near_energy,
+        near,
+        &estimates.estimate,
+        valid,
+    );
     let asked = Conditions {
         flushing: !adapt,
-        diverged: output_checked.diverged,
-        far_is_active: active,
-        established: DTD_ESTABLISH_BLOCKS <= detector.dtd_blocks,
+        diverged: checked.output.diverged,
+        far_is_active: played.active,
+        established: DTD_ESTABLISH_BLOCKS <= mic.detector.dtd_blocks,
     };
-    let quiet = !detector.dtd_collapsed & !detector.protect_output;
-    let paths = output_checked.paths;
-    let transfers = mic.transfers;
-    let compared = compare(
+    let quiet = !mic.detector.dtd_collapsed & !mic.detector.protect_output;
+    compare(
         asked,
         quiet,
-        shadow_error,
+        &estimates.shadow_error,
         error,
         valid,
-        paths,
-        transfers,
+        &mut mic.paths,
+        &mut mic.transfers,
         shadow,
         output,
-    );
-    Judged { detector, compared }
+    )
 }
 
-// Steps 7, 8 and 9.
+// Step 6.
+fn update(
+    transform: &mut Transform,
+    adapts: bool,
+    played: &Played,
+    shadow_error: &[f32; 256],
+    mic: &mut Mic,
+    shadow: &mut [f64],
+) -> u32
+    requires { length shadow.old ≡ 514 * played.now.ring.partitions }
+    ensures updated { updated_of result mic.new shadow.new ≡ updated adapts (ring_in played.now.ring) played.now.far_power.now shadow_error.now mic.old.detector.step_scale mic.old.far_power_mean mic.old.paths mic.old.divergence_resets shadow.old }
+    ensures others_stay { UpdatesOnly mic.old mic.new }
+{
+    adapt_shadow(
+        transform,
+        adapts,
+        &played.ring,
+        played.far_power,
+        shadow_error,
+        mic.detector.step_scale,
+        &mut mic.far_power_mean,
+        &mut mic.paths,
+        &mut mic.divergence_resets,
+        shadow,
+    )
+}
+
+// Steps 7, 8 and 9. How many samples of the suppressor's inverse went over.
+#[tactic(auto, unfolding(crate::specs::Groups::delivered))]
 fn deliver(
-    table: &[f64; 514],
-    scratch: &mut [f64; 1024],
-    on: bool,
-    protect: bool,
-    near: &[f32; 256],
+    transform: &mut Transform,
+    suppresses: bool,
+    given: &MicBlock,
     near_energy: f64,
-    valid: usize,
-    checked: Checked,
+    checked: &BothChecked,
     bins: &[f64; 514],
-    mic: MicRest,
-    paths: Paths,
-    resets: u64,
-    echo_power: &mut [f64; 257],
-    error_power: &mut [f64; 257],
-    gain: &mut [f64; 257],
-    window: &mut [f32; 512],
+    mic: &mut Mic,
     block: &mut [f32; 256],
     output: &mut [f64],
-) -> DeliveredRest
-    requires table_value { table.now ≡ recombination }
-    requires valid_bound { valid ≤ 256 }
-    ensures { delivered_of result (suppressor_of echo_power.new error_power.new gain.new window.new) block.new output.new ≡ delivered on protect near.now near_energy valid (estimated_lent checked (suppressor_of echo_power.old error_power.old gain.old window.old) bins.now block.old [] []) (bare mic) paths resets output.old }
+) -> u32
+    ensures delivered { delivered_of result mic.new block.new output.new ≡ delivered suppresses mic.old.detector.protect_output given.now.near.now near_energy given.now.valid (estimated_of checked.now.output mic.old.paths mic.old.suppressor mic.old.divergence_resets bins.now block.old [] []) mic.old mic.old.paths mic.old.divergence_resets output.old }
+    ensures others_stay { DeliversOnly mic.old mic.new }
 {
+    let protect = mic.detector.protect_output;
     let overs = suppress(
-        table,
-        scratch,
-        on,
+        transform,
+        suppresses,
         protect,
         bins,
-        echo_power,
-        error_power,
-        gain,
-        window,
+        &mut mic.suppressor,
         block,
     );
-    let old_guard = mic.guard;
-    let guarded = guard(
-        near,
+    guard(
+        given.near,
         near_energy,
-        valid,
-        old_guard,
-        paths,
-        resets,
-        echo_power,
-        error_power,
-        gain,
-        window,
+        given.valid,
+        &mut mic.guard,
+        &mut mic.suppressor,
+        &mut mic.paths,
+        &mut mic.divergence_resets,
         block,
         output,
     );
-    let powers = host_powers(near, block, valid, mic.powers);
-    let new_paths = guarded.paths;
-    let new_guard = guarded.guard;
-    DeliveredRest {
-        guard: new_guard,
-        paths: new_paths,
-        divergence_resets: guarded.divergence_resets,
-        powers,
-        overs,
-    }
+    host_powers(given.near, block, given.valid, &mut mic.powers);
+    overs
 }
 
 // A microphone on what was heard: steps 2, 3 and 5 to 9.
 pub fn run_mic(
-    table: &[f64; 514],
-    scratch: &mut [f64; 1024],
-    parts: usize,
-    flag: bool,
-    head: usize,
-    sounded: bool,
-    active: bool,
-    spectra: &[f64],
-    far_power: &[f64; 257],
-    near: &[f32; 256],
-    valid: usize,
-    adapt: bool,
-    mic: MicRest,
-    means: &mut [f64; 257],
-    echo_power: &mut [f64; 257],
-    error_power: &mut [f64; 257],
-    gain: &mut [f64; 257],
-    window: &mut [f32; 512],
+    transform: &mut Transform,
+    flagged: bool,
+    played: &Played,
+    given: &MicBlock,
+    mic: &mut Mic,
     block: &mut [f32; 256],
     shadow: &mut [f64],
     output: &mut [f64],
-) -> ListenedRest
-    requires table_value { table.now ≡ recombination }
-    requires shadow_len { (length shadow.old ≡ 514 * parts) × (length output.old ≡ 514 * parts) × (length spectra.now ≡ 514 * parts) × (head < parts) × (parts ≤ 32) × (valid ≤ 256) }
-    ensures { listened_of result means.new (suppressor_of echo_power.new error_power.new gain.new window.new) block.new shadow.new output.new ≡ listen flag (playing_of parts head sounded active spectra.now far_power.now) (mic_block near.now valid adapt) (microphone_of mic means.old (suppressor_of echo_power.old error_power.old gain.old window.old) shadow.old output.old) }
+) -> Told
+    requires shadow_len { length shadow.old ≡ 514 * played.now.ring.partitions }
+    requires output_len { length output.old ≡ 514 * played.now.ring.partitions }
+    ensures { listened_of mic.new block.new result shadow.new output.new ≡ listen flagged (playing_in played.now) (block_in given.now) (record { mic = mic.old; shadow = shadow.old; output = output.old }) }
 {
-    let mut bins = [0.0f64; 514];
-    let mut estimate = [0.0f32; 256];
-    let mut shadow_error = [0.0f32; 256];
-    let near_energy = energy(near, valid);
+    let mut heard = Estimates {
+        bins: [0.0f64; 514],
+        estimate: [0.0f32; 256],
+        shadow_error: [0.0f32; 256],
+    };
+    let near_energy = energy(given.near, given.valid);
     let checked = filter(
-        table,
-        scratch,
-        &mut bins,
-        parts,
-        head,
-        spectra,
-        near,
-        mic,
-        echo_power,
-        error_power,
-        gain,
-        window,
-        &mut estimate,
-        &mut shadow_error,
-        block,
-        shadow,
-        output,
+        transform, played, given, mic, &mut heard, block, shadow, output,
     );
-    let shadow_checked = checked.shadow;
-    let output_checked = checked.output;
-    let judged = judge(
-        adapt,
-        active,
-        near,
+    let compared = judge(
+        played,
+        given,
         near_energy,
-        valid,
-        checked,
+        &checked,
         mic,
-        &estimate,
-        &shadow_error,
+        &heard,
         block,
         shadow,
         output,
     );
-    let detector = judged.detector;
-    let compared = judged.compared;
-    let adapts = adapt & !output_checked.diverged & !shadow_checked.diverged & !compared.rescued;
-    let step_scale = detector.step_scale;
-    let compared_paths = compared.paths;
-    let resets = output_checked.divergence_resets;
-    let updated = adapt_shadow(
-        table,
-        scratch,
-        adapts,
-        parts,
-        head,
-        spectra,
-        far_power,
-        &shadow_error,
-        step_scale,
-        means,
-        compared_paths,
-        resets,
-        shadow,
-    );
-    let suppresses = flag & sounded & !output_checked.diverged;
-    let protect = detector.protect_output;
-    let updated_paths = updated.paths;
-    let updated_resets = updated.divergence_resets;
-    let delivered = deliver(
-        table,
-        scratch,
+    let sound = !checked.output.diverged;
+    let adapts = given.adapt & sound & !checked.shadow.diverged & !compared.rescued;
+    let update_overs = update(transform, adapts, played, &heard.shadow_error, mic, shadow);
+    let suppresses = flagged & played.sounded & sound;
+    let overs = deliver(
+        transform,
         suppresses,
-        protect,
-        near,
+        given,
         near_energy,
-        valid,
-        output_checked,
-        &bins,
+        &checked,
+        &heard.bins,
         mic,
-        updated_paths,
-        updated_resets,
-        echo_power,
-        error_power,
-        gain,
-        window,
         block,
         output,
     );
-    let paths = delivered.paths;
-    let guard = delivered.guard;
-    let powers = delivered.powers;
-    let reason = compared.reason;
-    let overs = shadow_checked.overs + output_checked.overs + updated.overs + delivered.overs;
-    ListenedRest {
-        mic: MicRest {
-            detector,
-            paths,
-            guard,
-            powers,
-            transfers: compared.transfers,
-            divergence_resets: delivered.divergence_resets,
-        },
-        told: Told { reason, overs },
+    Told {
+        reason: compared.reason,
+        overs: checked.shadow.overs + checked.output.overs + update_overs + overs,
     }
 }

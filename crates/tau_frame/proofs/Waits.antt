@@ -13,7 +13,7 @@ use lib.Seq.{drop-cons}
 use Rattle.laws.specs.Choice.{pick_no}
 use Rattle.numbers.specs.Finite.{finite_or_zero}
 use Rattle.tau_frame.specs.Pairs.{Engine, waits_of, carrying, fill_of, pair_of, pairs_of, last_of}
-use Rattle.tau_frame.specs.Lent.{filled_of}
+use Rattle.tau_frame.specs.Filled.{filled_of}
 
 -- ---- a carry
 

@@ -3,4 +3,4 @@
 
 mod run;
 
-pub use run::{Blocked, BlockedRest, run_block, run_lent};
+pub use run::run_block;

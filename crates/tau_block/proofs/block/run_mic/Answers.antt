@@ -1,58 +1,34 @@
-use Rattle.tau_block.proofs.Composed.{listen-lent}
+use Rattle.std.proofs.Common.{arith}
+use Rattle.tau_block.proofs.Composed.{listen-left}
 use Rattle.tau_block.proofs.Few.{filter-few, update-few, deliver-few}
-use native.Mathlib.Omega.{arith}
 use Rattle.tau_block.proofs.block.run_mic.Goals as goal
 
-pub filter-checked-requires : goal.filter-checked-requires
-filter-checked-requires c = record {
-  table_value = c.requires.table_value;
-  shadow_len = (c.requires.shadow_len.0, c.requires.shadow_len.1, c.requires.shadow_len.2, c.requires.shadow_len.3, c.requires.shadow_len.4);
-}
+pub overflow_add-result : goal.overflow_add-result
+overflow_add-result c =
+    let both = filter-few c.filter-checked.result c.filter-checked.new.mic _ _ _ _ _ c.filter-checked.ensures.filtered in
+    omega (arith, both.0, both.1)
 
-pub judge-judged-requires : goal.judge-judged-requires
-judge-judged-requires c = record {
-  valid_bound = c.requires.shadow_len.5;
-  shadow_len = omega (arith, c.requires.shadow_len, c.filter-checked.auto);
-}
+pub overflow_add-result-2 : goal.overflow_add-result-2
+overflow_add-result-2 c =
+    let both = filter-few c.filter-checked.result c.filter-checked.new.mic _ _ _ _ _ c.filter-checked.ensures.filtered in
+    let learned = update-few c.update-update_overs.new.mic _ _ _ _ _ _ _ _ _ c.update-update_overs.ensures.updated in
+    omega (arith, both.0, both.1, learned, c.args.played.now.ring.at_most_32)
 
-pub adapt_shadow-updated-requires : goal.adapt_shadow-updated-requires
-adapt_shadow-updated-requires c = record {
-  table_value = c.requires.table_value;
-  shadow_len = (omega (arith, c.requires.shadow_len, c.filter-checked.auto, c.judge-judged.auto), c.requires.shadow_len.2, c.requires.shadow_len.3, c.requires.shadow_len.4);
-}
-
-pub deliver-delivered-requires : goal.deliver-delivered-requires
-deliver-delivered-requires c = record {
-  table_value = c.requires.table_value;
-  valid_bound = c.requires.shadow_len.5;
-}
-
-pub overflow_add-overs : goal.overflow_add-overs
-overflow_add-overs c =
-    -- so many overs at most: of a step no more than its inverses have samples
-    let first = filter-few c.filter-checked.result.shadow _ _ _ _ _ c.filter-checked.ensures in
-    let update = update-few _ _ _ _ _ _ _ _ _ c.adapt_shadow-updated.ensures in
-    omega (arith, first.0, first.1, update, c.requires.shadow_len.4, deliver-few _ _ _ _ _ _ _ _ _ _ c.deliver-delivered.ensures)
-
-pub overflow_add-overs-2 : goal.overflow_add-overs-2
-overflow_add-overs-2 c =
-    -- so many overs at most: of a step no more than its inverses have samples
-    let first = filter-few c.filter-checked.result.shadow _ _ _ _ _ c.filter-checked.ensures in
-    let update = update-few _ _ _ _ _ _ _ _ _ c.adapt_shadow-updated.ensures in
-    omega (arith, first.0, first.1, update, c.requires.shadow_len.4, deliver-few _ _ _ _ _ _ _ _ _ _ c.deliver-delivered.ensures)
-
-pub overflow_add-overs-3 : goal.overflow_add-overs-3
-overflow_add-overs-3 c =
-    -- so many overs at most: of a step no more than its inverses have samples
-    let first = filter-few c.filter-checked.result.shadow _ _ _ _ _ c.filter-checked.ensures in
-    let update = update-few _ _ _ _ _ _ _ _ _ c.adapt_shadow-updated.ensures in
-    omega (arith, first.0, first.1, update, c.requires.shadow_len.4, deliver-few _ _ _ _ _ _ _ _ _ _ c.deliver-delivered.ensures)
-
-pub shape_of-shadow : goal.shape_of-shadow
-shape_of-shadow c = omega (arith, c.requires.shadow_len, c.filter-checked.auto, c.judge-judged.auto, c.adapt_shadow-updated.auto)
-
-pub shape_of-output : goal.shape_of-output
-shape_of-output c = omega (arith, c.requires.shadow_len, c.filter-checked.auto, c.judge-judged.auto, c.deliver-delivered.auto)
+pub overflow_add-result-3 : goal.overflow_add-result-3
+overflow_add-result-3 c =
+    let both = filter-few c.filter-checked.result c.filter-checked.new.mic _ _ _ _ _ c.filter-checked.ensures.filtered in
+    let learned = update-few c.update-update_overs.new.mic _ _ _ _ _ _ _ _ _ c.update-update_overs.ensures.updated in
+    omega (arith, both.0, both.1, learned, c.args.played.now.ring.at_most_32, deliver-few c.deliver-overs.new.mic _ _ _ _ _ _ _ _ _ _ c.deliver-overs.ensures.delivered)
 
 pub returns : goal.returns
-returns c = listen-lent _ _ _ _ _ _ _ _ _ _ _ _ _ _ _ c.filter-checked.result.shadow c.energy-near_energy.ensures c.filter-checked.ensures c.judge-judged.ensures c.adapt_shadow-updated.ensures c.deliver-delivered.ensures
+returns c =
+    listen-left _ _ _ _ c.filter-checked.result c.filter-checked.new.estimates c.judge-compared.result
+    c.energy-near_energy.ensures
+    c.filter-checked.ensures.filtered
+    c.filter-checked.ensures.others_stay
+    c.judge-compared.ensures.judged
+    c.judge-compared.ensures.others_stay
+    c.update-update_overs.ensures.updated
+    c.update-update_overs.ensures.others_stay
+    c.deliver-overs.ensures.delivered
+    c.deliver-overs.ensures.others_stay
