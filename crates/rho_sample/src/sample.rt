@@ -7,7 +7,7 @@ ghost use Rattle.rho_sample.specs.Sample.{loud_of, freeze_of, smooth_of, step_of
 use rho_state::state::RhoCanceller;
 use rho_taps::peak::peak;
 use rho_taps::ring::{next_position, sums_of};
-use rho_taps::update::adapt;
+use rho_taps::update::{adapt, scale_of};
 
 const GEIGEL_THRESHOLD: f32 = 0.5;
 
@@ -61,8 +61,7 @@ pub fn step(
     state.divergence_resets = adapt(
         fine,
         left,
-        error,
-        sums.energy,
+        scale_of(error, sums.energy),
         history,
         pos,
         weights,

@@ -17,7 +17,8 @@ const STEP_SIZE: f64 = 0.5;
 
 const REGULARIZATION: f64 = 1e-3;
 
-fn scale_of(error: f64, energy: f64) -> f64
+// What the pair's far samples are scaled by in the step of their weights.
+pub fn scale_of(error: f64, energy: f64) -> f64
     ensures { result ≡ scale_of error energy }
 {
     STEP_SIZE * error / (REGULARIZATION + energy)
@@ -148,8 +149,7 @@ fn update(scale: f64, history: &[f32], pos: usize, weights: &mut [f32]) -> bool
 pub fn adapt(
     fine: bool,
     freeze: u32,
-    error: f64,
-    energy: f64,
+    scale: f64,
     history: &[f32],
     pos: usize,
     weights: &mut [f32],
@@ -157,7 +157,7 @@ pub fn adapt(
 ) -> u64
     requires weights_len { length weights.old ≡ length history.now }
     requires pos_in_bounds { pos < length history.now }
-    ensures { record { weights = weights.new; resets = result } ≡ adapted_of fine freeze (scale_of error energy) history.now pos (length history.now) weights.old resets }
+    ensures { record { weights = weights.new; resets = result } ≡ adapted_of fine freeze scale history.now pos (length history.now) weights.old resets }
 {
     if !fine {
         weights.fill(0.0);
@@ -166,7 +166,7 @@ pub fn adapt(
     if freeze != 0 {
         return resets;
     }
-    if update(scale_of(error, energy), history, pos, weights) {
+    if update(scale, history, pos, weights) {
         return resets;
     }
     weights.fill(0.0);

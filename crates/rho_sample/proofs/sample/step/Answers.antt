@@ -15,6 +15,6 @@ returns c = step_is _ _ _ _ _ _ _ _ _ _ _ _ _ _ _ _
     (c.peak.ensures.around_ring _ (omega (arith, c.next_position-pos.ensures.upper_bound, length-set c.args.history.now c.next_position-pos.result c.args.far)))
     c.is_loud-loud.ensures
     c.freeze-left.ensures
-    c.adapt-state.ensures
+    (rw c.scale_of.ensures at c.adapt-state.ensures)
     c.finite_or_zero-delivered.ensures
     (rw (c.smooth-state.ensures, c.smooth-state-2.ensures))

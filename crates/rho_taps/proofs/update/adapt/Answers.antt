@@ -29,7 +29,7 @@ unfolding adapted_of cleared_of
 returns-then-update c =
     pick_yes _ _ _ c.if-not-fine.false
     (pick_yes _ _ _ (eq-eqb _ _ c.if-freeze-ne0.false)
-    (pick_yes _ _ _ (rw (← c.scale_of.ensures, ← c.update.ensures.value) c.if-update.true) (rw (c.update.ensures.weights_after, c.scale_of.ensures))))
+    (pick_yes _ _ _ (rw (← c.update.ensures.value) c.if-update.true) (rw c.update.ensures.weights_after)))
 
 pub returns : goal.returns
 unfolding adapted_of cleared_of of_bits
@@ -37,5 +37,5 @@ returns c =
     let k : length c.update.new.weights ≡ length c.args.history.now = omega (arith, c.requires.weights_len) in
     pick_yes _ _ _ c.if-not-fine.false
     (pick_yes _ _ _ (eq-eqb _ _ c.if-freeze-ne0.false)
-    (pick_no _ _ _ (rw (← c.scale_of.ensures, ← c.update.ensures.value) c.if-update.false)
+    (pick_no _ _ _ (rw (← c.update.ensures.value) c.if-update.false)
     (rw (c.fill-2.ensures.after (search rules), k, c.saturating_add-2.ensures, counted c.args.resets (search rules)) refl)))
