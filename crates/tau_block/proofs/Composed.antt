@@ -5,7 +5,7 @@ use Rattle.std.specs.Prelude.{not, ◌&&◌, Float}
 use Rattle.tau_state.specs.Sums.{energy_of}
 use Rattle.tau_state.specs.declared.state.Mic.{Mic}
 use Rattle.tau_paths.specs.declared.paths.Compared.{Compared}
-use Rattle.tau_filter.specs.Lent.{estimated_of}
+use Rattle.tau_filter.specs.Left.{estimated_of}
 use Rattle.tau_update.specs.Update.{Updated, updated}
 use Rattle.tau_block.specs.Block.{Block, Playing, Microphone, listen}
 use Rattle.tau_block.specs.Groups.{Filtered, Judgement, Delivered, filtered, compares, delivered, gathered, updates, suppresses, grouped}

@@ -4,7 +4,7 @@ use Rattle.std.specs.Prelude.{◌≡◌, List, ℕ, Float}
 use Rattle.tau_state.specs.declared.state.Mic.{Mic}
 use Rattle.tau_state.specs.declared.report.Told.{Told}
 use Rattle.tau_paths.specs.declared.paths.Compared.{Compared}
-use Rattle.tau_filter.specs.Lent.{estimated_of}
+use Rattle.tau_filter.specs.Left.{estimated_of}
 use Rattle.tau_update.specs.Update.{Updated}
 use Rattle.tau_block.specs.Block.{Listened}
 use Rattle.tau_block.specs.Groups.{Filtered, Judgement, Delivered}

@@ -2,7 +2,7 @@
 // branches here.
 ghost use Rattle.std.specs.Prelude.{◌≡◌, [], ◌≤◌, ◌*◌, length};
 ghost use Rattle.tau_spectra.specs.FarRing.{ring_in};
-ghost use Rattle.tau_filter.specs.Lent.{estimated_of};
+ghost use Rattle.tau_filter.specs.Left.{estimated_of};
 ghost use Rattle.tau_update.specs.Update.{updated};
 ghost use Rattle.tau_block.specs.Block.{listen};
 ghost use Rattle.tau_block.specs.Groups.{filtered, compares, delivered};

@@ -2,5 +2,4 @@
 #![tactic(auto)]
 
 pub mod clears;
-pub mod lent;
 pub mod weights;

@@ -9,13 +9,6 @@ pub fn clear(d: &mut [f64])
     d.fill(0.0);
 }
 
-pub fn copy(d: &mut [f64], s: &[f64])
-    requires { length s.now ≡ length d.old }
-    ensures { d.new ≡ s.now }
-{
-    d.copy_from_slice(s);
-}
-
 pub fn halve(weights: &mut [f64])
     ensures { weights.new ≡ halved weights.old }
 {

@@ -1,2 +1,2 @@
 pub mod Filter
-pub mod Lent
+pub mod Left

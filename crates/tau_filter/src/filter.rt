@@ -1,7 +1,7 @@
 // Steps 2 and 3: the estimates and the errors.
 ghost use Rattle.std.specs.Prelude.{◌≡◌, ◌*◌, length};
 ghost use Rattle.tau_spectra.specs.FarRing.{ring_in};
-ghost use Rattle.tau_filter.specs.Lent.{shadowed_of, estimated_of};
+ghost use Rattle.tau_filter.specs.Left.{shadowed_of, estimated_of};
 ghost use Rattle.tau_filter.specs.Filter.{added, echo_of, errors_of, bad_to, shadowed, estimated};
 
 use complex::Complex;

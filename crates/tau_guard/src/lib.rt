@@ -2,5 +2,4 @@
 #![tactic(auto)]
 
 pub mod guard;
-pub mod lent;
 pub mod powers;

@@ -1,5 +1,4 @@
 // The two-path comparison, the second half of step 5.
 #![tactic(auto)]
 
-pub mod lent;
 pub mod paths;

@@ -14,7 +14,7 @@ use tau_state::sums::energy;
 const FAR_ACTIVITY_FRACTION: f64 = 1e-4;
 
 // No branch here, so that the compiler takes several at once.
-pub(crate) fn sounding(block: &[f32; 256]) -> bool
+fn sounding(block: &[f32; 256]) -> bool
     ensures { result ≡ sounds block.now 256 }
 {
     let mut on = false;
@@ -25,13 +25,13 @@ pub(crate) fn sounding(block: &[f32; 256]) -> bool
 }
 
 #[tactic(auto, unfolding(crate::specs::Far::energy_peak, laws::specs::Choice::pick))]
-pub(crate) fn peak(old: f64, energy: f64) -> f64
+fn peak(old: f64, energy: f64) -> f64
     ensures { result ≡ energy_peak old energy }
 {
     if old < energy { energy } else { old }
 }
 
-pub(crate) fn driving(peak: f64, energy: f64) -> bool
+fn driving(peak: f64, energy: f64) -> bool
     ensures { result ≡ drives peak energy }
 {
     (0.0 < peak) & (FAR_ACTIVITY_FRACTION * peak < energy)

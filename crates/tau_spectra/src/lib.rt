@@ -3,7 +3,6 @@
 
 pub mod bins;
 pub mod far;
-pub mod lent;
 pub mod powers;
 pub mod ring;
 pub mod transform;

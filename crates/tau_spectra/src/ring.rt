@@ -47,10 +47,3 @@ pub fn next_slot(partitions: usize, head: usize) -> usize
 {
     if head + 1 == partitions { 0 } else { head + 1 }
 }
-
-pub fn slot_of(head: usize, parts: usize, p: usize) -> usize
-    requires { (head < parts) × (parts ≤ 32) × (p < parts) }
-    ensures { (result ≡ slot_of head parts p) × (result < parts) }
-{
-    (head + parts - p) % parts
-}

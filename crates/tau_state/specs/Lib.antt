@@ -3,4 +3,3 @@ pub mod Sums
 pub mod After
 pub mod Ranges
 pub mod Report
-pub mod Lent

@@ -83,22 +83,3 @@ pub struct TauCanceller {
     pub far: Far,
     pub mic: Mic,
 }
-
-// What a microphone has besides its arrays, which a call lends to the steps.
-#[derive(Clone, Copy)]
-pub struct MicRest {
-    pub detector: Detector,
-    pub paths: Paths,
-    pub guard: Guard,
-    pub powers: Powers,
-    pub transfers: u64,
-    pub divergence_resets: u64,
-}
-
-// What the loudspeaker has besides its window.
-#[derive(Clone, Copy)]
-pub struct FarRest {
-    pub head: usize,
-    pub far_active: bool,
-    pub far_energy_peak: f64,
-}

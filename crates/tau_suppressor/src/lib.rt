@@ -1,5 +1,4 @@
 // Step 7 of a Tau block: the residual suppressor.
 #![tactic(auto)]
 
-pub mod lent;
 pub mod suppressor;

@@ -1,5 +1,4 @@
 // Step 6 of a Tau block: the update of the shadow.
 #![tactic(auto)]
 
-pub mod lent;
 pub mod update;

@@ -4,7 +4,6 @@ use Rattle.tau_state.specs.declared.state.Paths.{Paths}
 use Rattle.tau_state.specs.declared.state.Suppressor.{Suppressor}
 use Rattle.tau_filter.specs.Filter.{Shadowed, Estimated}
 use Rattle.tau_filter.specs.declared.filter.Checked.{Checked}
-use Rattle.tau_filter.specs.declared.lent.Checked as lent
 
 -- step 2: the paths, the count of resets, the estimate, the error and the shadow's weights
 abbrev pub shadowed_of : Checked → Paths → ℕ → List Float → List Float → List Float → Shadowed
@@ -24,32 +23,6 @@ estimated_of r paths suppressor resets spectrum error shadow output = record {
   paths = paths;
   suppressor = suppressor;
   resets = resets;
-  diverged = r.diverged;
-  spectrum = spectrum;
-  error = error;
-  shadow = shadow;
-  output = output;
-  overs = r.overs;
-}
-
--- step 2: the estimate, the error and the shadow's weights
-abbrev pub shadowed_lent : lent.Checked → List Float → List Float → List Float → Shadowed
-shadowed_lent r estimate error shadow = record {
-  paths = r.paths;
-  resets = r.divergence_resets;
-  diverged = r.diverged;
-  estimate = estimate;
-  error = error;
-  shadow = shadow;
-  overs = r.overs;
-}
-
--- step 3: the suppressor, the estimate's spectrum, the error and both filters' weights
-abbrev pub estimated_lent : lent.Checked → Suppressor → List Float → List Float → List Float → List Float → Estimated
-estimated_lent r suppressor spectrum error shadow output = record {
-  paths = r.paths;
-  suppressor = suppressor;
-  resets = r.divergence_resets;
   diverged = r.diverged;
   spectrum = spectrum;
   error = error;
