@@ -1,24 +1,24 @@
 // A leak as a decimal number: rounded to millionths, and without zeros at its end.
-ghost use Rattle.std.specs.Prelude.{◌≡◌, ◌+◌, ◌<◌, ◌≤◌, ◌++◌, length, take};
+ghost use Rattle.std.specs.Prelude.{◌≡◌, ◌+◌, ◌<◌, ◌≤◌};
+ghost use Rattle.arrayvec.specs.ArrayString.{array_string_len};
 ghost use Rattle.reasons.specs.Leak.{millionths_of, places_of, Leak};
 
+use arrayvec::ArrayString;
 use std::num::truncating_f64_to_u64;
-use text::{put, put_decimal};
+use text::decimal;
 
-// A number takes 20 places at most, and what is behind its point 7.
-pub fn put_leak(leak: f64, at: usize, line: &mut [u8]) -> usize
-    requires { at + 27 ≤ length line.old }
-    ensures upper_bound { result ≤ at + 27 }
-    ensures leak { Leak leak (take at line.old) (take result line.new) }
+// Puts the leak behind the line. A number takes 20 places at most, and what is behind its point 7.
+pub fn push_leak(line: &mut ArrayString<143>, leak: f64)
+    requires { array_string_len line.old + 27 ≤ 143 }
+    ensures upper_bound { array_string_len line.new ≤ array_string_len line.old + 27 }
+    ensures leak { Leak leak line.old.bytes line.new.bytes }
 {
     let count = millionths(leak);
-    let whole = put_decimal(count / 1000000, at, line);
-    let behind = count % 1000000;
-    if behind == 0 {
-        return whole;
+    line.push_str(decimal(count / 1000000).as_str());
+    if count % 1000000 != 0 {
+        line.push_str(".");
+        line.push_str(places(count % 1000000).as_str());
     }
-    let point = put(b".", whole, line);
-    put_places(behind, point, line)
 }
 
 // How many millionths are nearest. A leak lies between 0 and 0.75; what a u64 does not hold is 0.
@@ -35,20 +35,18 @@ fn millionths(leak: f64) -> u64
 }
 
 // The six decimal places of so many millionths, up to the last that is not 0.
-fn put_places(behind: u64, at: usize, line: &mut [u8]) -> usize
-    requires behind_bound { behind < 1000000 }
-    requires at_in_bounds { at + 6 ≤ length line.old }
-    ensures upper_bound { result ≤ at + 6 }
-    ensures line_after { take result line.new ≡ take at line.old ++ places_of 6 behind }
+fn places(behind: u64) -> ArrayString<6>
+    requires { behind < 1000000 }
+    ensures { result.bytes ≡ places_of 6 behind }
 {
-    let mut end = at;
+    let mut digits = ArrayString::new();
     let mut rest = behind;
-    let mut places = 6usize;
-    while places > 0 && rest > 0 {
-        line[end] = 48 + (rest / 100000) as u8;
+    for _ in 0..6u32 {
+        if rest == 0 {
+            return digits;
+        }
+        digits.push(char::from(b'0' + (rest / 100000) as u8));
         rest = rest % 100000 * 10;
-        end += 1;
-        places -= 1;
     }
-    end
+    digits
 }

@@ -1,63 +1,69 @@
 // The line of a stretch: which blocks, why, and how many samples went over in each.
-ghost use Rattle.std.specs.Prelude.{◌+◌, ◌≤◌, length, take};
+ghost use Rattle.std.specs.Prelude.{◌≡◌, ◌+◌, ◌≤◌, [], length};
+ghost use Rattle.arrayvec.specs.ArrayString.{array_string_len};
+ghost use Rattle.reasons.specs.Course.{number_of, leak_told};
 ghost use Rattle.reasons.specs.Line.{Blocks, Why, Overs, Line};
 
-use crate::leak::put_leak;
-use crate::words::put_words;
-use text::{put, put_decimal};
+use crate::leak::push_leak;
+use crate::words::words;
+use arrayvec::ArrayString;
+use tau_state::report::{Told, leak_of, outcome_of, reason_number};
+use text::decimal;
 
 // The blocks from `first` up to `last`. Two numbers, a reason with its leak, a count, and what stands between are 143 bytes at most.
-pub fn put_line(first: u64, last: u64, number: u32, leak: f64, overs: u32, line: &mut [u8]) -> usize
-    requires { 143 ≤ length line.old }
-    ensures upper_bound { result ≤ 143 }
-    ensures line { Line first last number leak overs (take result line.new) }
+pub fn line_of(first: u64, last: u64, told: Told) -> ArrayString<143>
+    ensures { Line first last (number_of told) (leak_told told) told.overs result.bytes }
 {
-    let named = put_blocks(first, last, line);
-    let colon = put(b": ", named, line);
-    let said = put_why(number, leak, colon, line);
-    let counted = put_overs(overs, said, line);
-    put(b"\n", counted, line)
+    let mut line = ArrayString::new();
+    push_blocks(&mut line, first, last);
+    line.push_str(": ");
+    push_why(&mut line, told);
+    push_overs(&mut line, told.overs);
+    line.push_str("\n");
+    line
 }
 
-fn put_blocks(first: u64, last: u64, line: &mut [u8]) -> usize
-    requires { 48 ≤ length line.old }
-    ensures upper_bound { result ≤ 48 }
-    ensures blocks { Blocks first last (take result line.new) }
+fn push_blocks(line: &mut ArrayString<143>, first: u64, last: u64)
+    requires { line.old.bytes ≡ [] }
+    ensures upper_bound { array_string_len line.new ≤ 48 }
+    ensures blocks { Blocks first last line.new.bytes }
 {
     if last <= first {
-        let one = put(b"block ", 0, line);
-        return put_decimal(first, one, line);
+        line.push_str("block ");
+        line.push_str(decimal(first).as_str());
+        return;
     }
-    let more = put(b"blocks ", 0, line);
-    let begun = put_decimal(first, more, line);
-    let dash = put(b"-", begun, line);
-    put_decimal(last, dash, line)
+    line.push_str("blocks ");
+    line.push_str(decimal(first).as_str());
+    line.push_str("-");
+    line.push_str(decimal(last).as_str());
 }
 
 // A move has its leak behind the word.
-fn put_why(number: u32, leak: f64, at: usize, line: &mut [u8]) -> usize
-    requires { at + 60 ≤ length line.old }
-    ensures upper_bound { result ≤ at + 60 }
-    ensures why { Why number leak (take at line.old) (take result line.new) }
+fn push_why(line: &mut ArrayString<143>, told: Told)
+    requires { array_string_len line.old + 60 ≤ 143 }
+    ensures upper_bound { array_string_len line.new ≤ array_string_len line.old + 60 }
+    ensures why { Why (number_of told) (leak_told told) line.old.bytes line.new.bytes }
 {
-    let said = put_words(number, at, line);
+    let number = reason_number(told.reason);
+    line.push_str(words(number));
     if number != 9 {
-        return said;
+        return;
     }
-    let comma = put(b", leak ", said, line);
-    put_leak(leak, comma, line)
+    line.push_str(", leak ");
+    push_leak(line, leak_of(outcome_of(told.reason)));
 }
 
 // Nothing where no sample went over.
-fn put_overs(overs: u32, at: usize, line: &mut [u8]) -> usize
-    requires { at + 32 ≤ length line.old }
-    ensures upper_bound { result ≤ at + 32 }
-    ensures overs { Overs overs (take at line.old) (take result line.new) }
+fn push_overs(line: &mut ArrayString<143>, overs: u32)
+    requires { array_string_len line.old + 32 ≤ 143 }
+    ensures upper_bound { array_string_len line.new ≤ array_string_len line.old + 32 }
+    ensures overs { Overs overs line.old.bytes line.new.bytes }
 {
     if overs == 0 {
-        return at;
+        return;
     }
-    let comma = put(b", ", at, line);
-    let counted = put_decimal(overs as u64, comma, line);
-    put(b" went over", counted, line)
+    line.push_str(", ");
+    line.push_str(decimal(u64::from(overs)).as_str());
+    line.push_str(" went over");
 }

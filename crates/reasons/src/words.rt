@@ -1,24 +1,22 @@
-// A reason in words; and under 10, which no reason has, what is counted beside the reasons.
-ghost use Rattle.std.specs.Prelude.{◌≡◌, ◌+◌, ◌≤◌, ◌++◌, length, take};
+// What a count of the tally is of, in words: a reason; and under 10, which no reason has, what is counted beside the reasons.
+ghost use Rattle.std.specs.Prelude.{◌≡◌, ◌≤◌, length};
 ghost use Rattle.reasons.specs.Words.{words_of};
 
-use text::put;
-
-pub fn put_words(number: u32, at: usize, line: &mut [u8]) -> usize
-    requires { at + 26 ≤ length line.old }
-    ensures upper_bound { result ≤ at + 26 }
-    ensures line_after { take result line.new ≡ take at line.old ++ words_of number }
+#[tactic(auto, unfolding(crate::specs::Words::words_of, laws::specs::Choice::pick))]
+pub fn words(number: u32) -> &'static str
+    ensures value { result.now ≡ words_of number }
+    ensures most { length result.now ≤ 26 }
 {
     match number {
-        1 => put(b"flush block", at, line),
-        2 => put(b"output diverged", at, line),
-        3 => put(b"far not active", at, line),
-        4 => put(b"detector not established", at, line),
-        5 => put(b"rescued", at, line),
-        6 => put(b"quiet streak below 6", at, line),
-        7 => put(b"output power not above 0", at, line),
-        8 => put(b"advantage not at least 0.1", at, line),
-        10 => put(b"went over", at, line),
-        _ => put(b"moved", at, line),
+        1 => "flush block",
+        2 => "output diverged",
+        3 => "far not active",
+        4 => "detector not established",
+        5 => "rescued",
+        6 => "quiet streak below 6",
+        7 => "output power not above 0",
+        8 => "advantage not at least 0.1",
+        10 => "went over",
+        _ => "moved",
     }
 }

@@ -8,13 +8,17 @@ pub fn digit_count(n: u64, base: u64, width: usize) -> usize
     requires width_nonzero { 0 < width }
     ensures { IsDigitCount base width n result }
 {
-    let mut k = 1usize;
-    let mut rest = n / base;
-    while rest > 0 {
-        rest /= base;
-        k += 1;
+    least_count(n, base).max(width)
+}
+
+fn least_count(n: u64, base: u64) -> usize
+    requires { 1 < base }
+    ensures { IsDigitCount base 1 n result }
+{
+    match n.checked_ilog(base) {
+        Some(k) => k as usize + 1,
+        None => 1,
     }
-    if k < width { width } else { k }
 }
 
 // Puts the last `k` digits of `n` at the front of `out`.
@@ -25,10 +29,8 @@ pub fn write_digits(n: u64, base: u64, k: usize, out: &mut [u8])
     ensures digits { take k out.new ≡ last_digits base k n }
     ensures rest { drop k out.new ≡ drop k out.old }
 {
-    let mut i = k;
     let mut rest = n;
-    while i > 0 {
-        i -= 1;
+    for i in (0..k).rev() {
         out[i] = ascii(rest % base);
         rest /= base;
     }

@@ -1,26 +1,40 @@
-// Words and numbers end to end, in a buffer that the caller lends: what a program's line is made of. Each function puts its own behind the
-// buffer's first `at` bytes and answers where it ends.
+// Words and numbers end to end: what a program's line is made of.
+//
+// The functions `put`, `put_decimal` and `put_hex` put theirs behind the first `at` bytes of a buffer that the caller lends, and answer where
+// it ends.
 #![tactic(auto)]
 
 mod digits;
 
 ghost use Rattle.std.specs.Prelude.{◌≡◌, ◌++◌, ◌+◌, ◌≤◌, length, take};
 ghost use Rattle.text.specs.Digits.{last_digits};
-ghost use Rattle.text.specs.Text.{Appended};
+ghost use Rattle.text.specs.Text.{Decimal, Appended};
 
+use arrayvec::ArrayString;
 use digits::{digit_count, write_digits};
+
+// A number in decimal digits. It takes 20 at most.
+pub fn decimal(n: u64) -> ArrayString<20>
+    ensures { Decimal n result.bytes }
+{
+    let mut digits = [0u8; 20];
+    let count = digit_count(n, 10, 1);
+    write_digits(n, 10, count, &mut digits);
+    let mut text = ArrayString::new();
+    for digit in &digits[..count] {
+        text.push(char::from(*digit));
+    }
+    text
+}
 
 pub fn put(word: &[u8], at: usize, out: &mut [u8]) -> usize
     requires { at + length word.now ≤ length out.old }
     ensures value { result ≡ at + length word.now }
     ensures out_after { take result out.new ≡ take at out.old ++ word.now }
 {
-    let mut k = 0usize;
-    while k < word.len() {
-        out[at + k] = word[k];
-        k += 1;
-    }
-    at + word.len()
+    let end = at + word.len();
+    out[at..end].copy_from_slice(word);
+    end
 }
 
 // A number takes 20 places at most.

@@ -1,11 +1,7 @@
 -- `text::put_decimal` meets its contract: a number below 2 ^ 64 has at most 20 decimal digits. Assumes nothing.
-use Rattle.std.proofs.Common.{ℕ, ◌^◌, ◌≤◌, ◌<◌, rules, arith, take, sym, length-take-le}
-use Rattle.text.specs.Digits.{IsDigitCount}
-use Rattle.text.proofs.Powers.{digit_count_le}
+use Rattle.std.proofs.Common.{rules, arith, take, sym, length-take-le}
+use Rattle.text.proofs.Powers.{few}
 use Rattle.text.proofs.put_decimal.Goals as goal
-
-few : (n k : ℕ) → n < 2 ^ 64 → IsDigitCount 10 1 n k → k ≤ 20
-few n k h f = digit_count_le 10 1 n k 20 (omega arith) f (omega arith) (omega arith)
 
 pub write_digits-requires : goal.write_digits-requires
 write_digits-requires c = omega (arith, few c.args.n c.digit_count-count.result (search rules) c.digit_count-count.ensures)

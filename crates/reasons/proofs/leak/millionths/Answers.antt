@@ -5,12 +5,13 @@ use Rattle.laws.specs.Choice.{pick_yes, pick_no}
 use Rattle.reasons.specs.Leak.{millionths_of}
 use Rattle.reasons.proofs.leak.millionths.Goals as goal
 
-pub truncating_f64_to_u64-requires : goal.truncating_f64_to_u64-requires
+pub truncating_f64_to_u64-requires-clause-lower_bound : goal.truncating_f64_to_u64-requires-clause-lower_bound
 unfolding of_bits neg millionths_of
-truncating_f64_to_u64-requires c = record {
-  lower_bound = subst T (sym c.if-above.true) tt;
-  upper_bound = subst T (sym c.if-above-2.true) tt;
-}
+truncating_f64_to_u64-requires-clause-lower_bound c = subst T (sym c.if-above.true) tt
+
+pub truncating_f64_to_u64-requires-clause-upper_bound : goal.truncating_f64_to_u64-requires-clause-upper_bound
+unfolding of_bits neg millionths_of
+truncating_f64_to_u64-requires-clause-upper_bound c = subst T (sym c.if-above-2.true) tt
 
 pub returns-then-above-2 : goal.returns-then-above-2
 unfolding of_bits neg millionths_of
