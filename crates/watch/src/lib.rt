@@ -7,10 +7,9 @@
 
 use capture::Engine;
 use pipe::{ProgramError, Streams};
-use reasons::course;
 use reasons::course::Course;
-use reasons::note::{note, put_reset, put_stretch};
-use reasons::tally::put_summary;
+use reasons::note::{note, reset_lines, stretch_line};
+use reasons::tally::summary;
 use std::io::{Read, Write};
 use std::marker::Model;
 use tau_state::report::Last;
@@ -46,7 +45,7 @@ impl Watch {
     {
         Watch {
             engine: Engine::new(),
-            course: course::start(),
+            course: Course::start(),
             counts: [0; 11],
         }
     }
@@ -112,10 +111,9 @@ impl Watch {
         ensures course { self.new.course ≡ course_after self.old.course last }
         ensures counts { self.new.counts ≡ counts_after last self.old.counts }
     {
-        let mut line = [0u8; 143];
-        let noted = note(self.course, last, &mut self.counts, &mut line);
+        let noted = note(self.course, last, &mut self.counts);
         self.course = noted.course;
-        streams.write_all(&line[..noted.end])
+        streams.write_all(noted.line.as_str().as_bytes())
     }
 
     // The engine is reset, which a line says.
@@ -126,11 +124,10 @@ impl Watch {
         ensures reset { record { engine = self.new.engine; course = self.new.course } ≡ reset_by self.old.engine self.old.course }
         ensures counts { self.new.counts ≡ self.old.counts }
     {
-        let mut text = [0u8; 149];
-        let end = put_reset(self.course, &mut text);
+        let lines = reset_lines(self.course);
         self.engine.reset();
-        self.course = course::closed(self.course);
-        streams.write_all(&text[..end])
+        self.course = self.course.closed();
+        streams.write_all(lines.as_str().as_bytes())
     }
 
     // The last stretch and the summary.
@@ -138,11 +135,8 @@ impl Watch {
         &self,
         streams: &mut Streams<R, W, E>,
     ) -> Result<(), ProgramError> {
-        let mut line = [0u8; 143];
-        let mut summary = [0u8; 509];
-        let end = put_stretch(self.course, &mut line);
-        let size = put_summary(self.course.blocks, &self.counts, &mut summary);
-        streams.write_all(&line[..end])?;
-        streams.write_all(&summary[..size])
+        streams.write_all(stretch_line(self.course).as_str().as_bytes())?;
+        let counted = summary(self.course.blocks, &self.counts);
+        streams.write_all(counted.as_str().as_bytes())
     }
 }
