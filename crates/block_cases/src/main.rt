@@ -7,189 +7,66 @@
 //     9         its leak, and 0 where it is no move
 //     10        the hash of what it delivers, all 256 samples; where none is run, of zeros
 //     11 to 38  the state and three buffers, as many of a buffer's numbers as the partitions have (crate `tau_lines`)
-//     39        halves: the reason of the last block, 0 to 9 as `reason_number` has them; and its overs
+//     39        halves: the reason of the last block, 0 to 9 as `u32::from` has them; and its overs
 //     40        the hash of the powers, as many as the partitions have
 //
 // A field without a use is 0.
 #![tactic(auto)]
 
-mod got;
-mod made;
+mod block;
 mod steps;
 
-ghost use Rattle.std.specs.Prelude.{◌≡◌, length};
-
-use cases::Tally;
-use got::{Got, because, fields_of};
-use std::io::Write;
+use cases::{Case, Compared, Program, hash, joined};
 use steps::{begun, done};
-use tau_lines::fresh;
+use tau_lines::{Buffers, Fields, compared, fresh};
 use tau_state::state::TauCanceller;
 
-// A letter, 41 times a blank and 16 digits, and the line's end.
-const SIZE: usize = 699;
-
-// What a line leaves to the next one, besides the buffers.
-#[derive(Clone, Copy)]
-pub struct Turn {
-    pub tally: Tally,
-    pub state: TauCanceller,
+#[derive(Drop)]
+struct Engine {
+    state: TauCanceller,
+    buffers: Buffers,
 }
 
-// A proved loop has to end, and nothing says that the input does. So it counts its turns down, from a
-// number that no list uses up.
+impl Program<41> for Engine {
+    fn answer(&mut self, case: &Case<41>) -> Option<Compared> {
+        self.step(
+            case.letter,
+            &case.head(),
+            [case.fields[39], case.fields[40]],
+        )
+    }
+}
+
+impl Engine {
+    // A step beside what the list has for it: fields 39 and 40 first, then the others in their order.
+    fn step(&mut self, letter: u8, fields: &Fields, last: [u64; 2]) -> Option<Compared> {
+        let state = begun(letter, fields, &self.state);
+        let partitions = state.partitions;
+        if 32 < partitions {
+            return None;
+        }
+        self.state = state;
+        let weights = 514 * partitions;
+        let mut lent = self
+            .buffers
+            .lend(weights, weights, weights, 257 * partitions)?;
+        let last_block = done(letter, fields, &mut self.state, &mut lent)?;
+        let answer = Compared::first(&[joined(last_block.reason, last_block.overs), hash(lent.powers)], &last)
+            .or(Compared::first(&[last_block.outcome, last_block.leak, last_block.hash], &fields[8..11]))
+            .or(compared(fields, &self.state, &lent));
+        Some(answer)
+    }
+}
+
 fn main(rt: HostRuntime) {
-    let mut stdin = rt.stdin();
-    let mut stdout = rt.stdout();
-    let mut block = [0u8; 65536];
-    let mut shadow = [0.0f64; 16448];
-    let mut output = [0.0f64; 16448];
-    let mut spectra = [0.0f64; 16448];
-    let mut powers = [0.0f64; 8224];
-    let mut state = fresh();
-    let mut source = cases::fill(&mut stdin, SIZE, &mut block);
-    let mut tally = cases::none();
-    let mut turns = u64::MAX;
-    while turns > 0 && SIZE <= source.left {
-        let at = source.at;
-        let end = at + SIZE;
-        let turn = judged(
-            &mut stdout,
-            tally,
-            state,
-            &block[at..end],
-            &mut shadow,
-            &mut output,
-            &mut spectra,
-            &mut powers,
-        );
-        tally = turn.tally;
-        let after = turn.state;
-        state = after;
-        source = cases::next(&mut stdin, source, SIZE, &mut block);
-        turns -= 1;
-    }
-    cases::verdict(&mut stdout, b"block_cases", tally, source.left);
-}
-
-// The tally with one line more, and the state after it.
-fn judged<W: Write>(
-    stdout: &mut W,
-    tally: Tally,
-    state: TauCanceller,
-    line: &[u8],
-    shadow: &mut [f64],
-    output: &mut [f64],
-    spectra: &mut [f64],
-    powers: &mut [f64],
-) -> Turn
-    requires line_len { length line.now ≡ 699 }
-    requires shadow_len { length shadow.old ≡ 16448 }
-    requires output_len { length output.old ≡ 16448 }
-    requires spectra_len { length spectra.old ≡ 16448 }
-    requires powers_len { length powers.old ≡ 8224 }
-{
-    if !cases::is_case(line) {
-        return refused(stdout, tally, state);
-    }
-    let start = begun(line, state);
-    let partitions = start.partitions;
-    if 32 < partitions {
-        return refused(stdout, tally, state);
-    }
-    let lent = 514 * partitions;
-    let bins = 257 * partitions;
-    taken(
-        stdout,
-        tally,
-        start,
-        line,
-        &mut shadow[..lent],
-        &mut output[..lent],
-        &mut spectra[..lent],
-        &mut powers[..bins],
-    )
-}
-
-// The same, with what is lent to the step.
-fn taken<W: Write>(
-    stdout: &mut W,
-    tally: Tally,
-    state: TauCanceller,
-    line: &[u8],
-    shadow: &mut [f64],
-    output: &mut [f64],
-    spectra: &mut [f64],
-    powers: &mut [f64],
-) -> Turn
-    requires { length line.now ≡ 699 }
-{
-    let got = done(line, state, shadow, output, spectra, powers);
-    finished(
-        stdout,
-        tally,
-        line,
-        got,
-        cases::hash_of(shadow),
-        cases::hash_of(output),
-        cases::hash_of(spectra),
-        cases::hash_of(powers),
-    )
-}
-
-// The same, with what the step came to.
-fn finished<W: Write>(
-    stdout: &mut W,
-    tally: Tally,
-    line: &[u8],
-    got: Got,
-    shadow: u64,
-    output: u64,
-    spectra: u64,
-    powers: u64,
-) -> Turn
-    requires { length line.now ≡ 699 }
-{
-    let state = got.state;
-    if !got.is_known {
-        return refused(stdout, tally, state);
-    }
-    let last = [because(got), powers];
-    let numbers = fields_of(got, shadow, output, spectra);
-    Turn {
-        tally: compared(stdout, tally, line, last, numbers),
-        state,
-    }
-}
-
-fn refused<W: Write>(stdout: &mut W, tally: Tally, state: TauCanceller) -> Turn {
-    Turn {
-        tally: cases::refuse(stdout, tally),
-        state,
-    }
-}
-
-// One judgement a line, by the first number that differs: of fields 39 and 40, then of 8 to 38.
-fn compared<W: Write>(
-    stdout: &mut W,
-    tally: Tally,
-    line: &[u8],
-    last: [u64; 2],
-    got: [u64; 31],
-) -> Tally
-    requires { length line.now ≡ 699 }
-{
-    for k in 0..2usize {
-        let want = cases::field(line, 39 + k);
-        if last[k] != want {
-            return cases::judge(stdout, tally, last[k], want);
-        }
-    }
-    for k in 0..31usize {
-        let want = cases::field(line, 8 + k);
-        if got[k] != want {
-            return cases::judge(stdout, tally, got[k], want);
-        }
-    }
-    cases::judge(stdout, tally, 0, 0)
+    let mut engine = Engine {
+        state: fresh(),
+        buffers: Buffers::new(),
+    };
+    cases::replay(
+        "block_cases",
+        &mut engine,
+        &mut rt.stdin(),
+        &mut rt.stdout(),
+    );
 }

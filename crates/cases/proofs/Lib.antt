@@ -1,1 +1,4 @@
 pub mod Bounds
+pub mod Count
+pub mod Fields
+pub mod Form

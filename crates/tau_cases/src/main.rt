@@ -11,7 +11,7 @@
 //     40        halves: how much is lent of the far spectra, and of the output buffer
 //     41        halves: the refusal, and the number of delivered samples
 //     42, 43    the report: the transfers, and the resets
-//     44        halves, the report: the reason, 0 to 9 as `reason_number` has them; and the overs
+//     44        halves, the report: the reason, 0 to 9 as `u32::from` has them; and the overs
 //     45, 46    how much is lent of the powers, and the hash of it
 //
 // A field without a use is 0.
@@ -19,201 +19,46 @@
 
 mod calls;
 
-ghost use Rattle.std.specs.Prelude.{◌≡◌, length};
-
-use calls::{Got, called};
-use cases::Tally;
-use std::io::Write;
-use tau_lines::{fresh, halves, numbers_of};
+use calls::called;
+use cases::{Case, Compared, Program, halves, hash};
+use tau_lines::{Buffers, compared, fresh};
 use tau_state::state::TauCanceller;
 
-// A letter, 47 times a blank and 16 digits, and the line's end.
-const SIZE: usize = 801;
-
-// What a line leaves to the next one, besides the buffers.
-#[derive(Clone, Copy)]
-pub struct Turn {
-    pub tally: Tally,
-    pub state: TauCanceller,
+#[derive(Drop)]
+struct Engine {
+    state: TauCanceller,
+    buffers: Buffers,
 }
 
-// A proved loop has to end, and nothing says that the input does. So it counts its turns down, from a
-// number that no list uses up. The buffers have room for a length that is too large.
+impl Program<47> for Engine {
+    // Fields 41 to 44 first, then 46, then 8 to 38.
+    fn answer(&mut self, case: &Case<47>) -> Option<Compared> {
+        let fields = case.head();
+        let (shadow, output) = halves(case.fields[39]);
+        let (spectra, room) = halves(case.fields[40]);
+        let powers = case.fields[45] as usize;
+        let mut lent = self
+            .buffers
+            .lend(shadow as usize, output as usize, spectra as usize, powers)?;
+        let got = called(
+            case.letter,
+            &fields,
+            room as usize,
+            &mut self.state,
+            &mut lent,
+        )?;
+        let answer = Compared::first(&got.answer(), &case.fields[41..45])
+            .or(Compared::first(&[hash(lent.powers)], &case.fields[46..]))
+            .or(Compared::first(&got.told(), &fields[8..11]))
+            .or(compared(&fields, &self.state, &lent));
+        Some(answer)
+    }
+}
+
 fn main(rt: HostRuntime) {
-    let mut stdin = rt.stdin();
-    let mut stdout = rt.stdout();
-    let mut block = [0u8; 65536];
-    let mut shadow = [0.0f64; 16456];
-    let mut output = [0.0f64; 16456];
-    let mut spectra = [0.0f64; 16456];
-    let mut powers = [0.0f64; 8232];
-    let mut state = fresh();
-    let mut source = cases::fill(&mut stdin, SIZE, &mut block);
-    let mut tally = cases::none();
-    let mut turns = u64::MAX;
-    while turns > 0 && SIZE <= source.left {
-        let at = source.at;
-        let end = at + SIZE;
-        let turn = judged(
-            &mut stdout,
-            tally,
-            state,
-            &block[at..end],
-            &mut shadow,
-            &mut output,
-            &mut spectra,
-            &mut powers,
-        );
-        tally = turn.tally;
-        let after = turn.state;
-        state = after;
-        source = cases::next(&mut stdin, source, SIZE, &mut block);
-        turns -= 1;
-    }
-    cases::verdict(&mut stdout, b"tau_cases", tally, source.left);
-}
-
-// The tally with one line more, and the state after it.
-fn judged<W: Write>(
-    stdout: &mut W,
-    tally: Tally,
-    state: TauCanceller,
-    line: &[u8],
-    shadow: &mut [f64],
-    output: &mut [f64],
-    spectra: &mut [f64],
-    powers: &mut [f64],
-) -> Turn
-    requires line_len { length line.now ≡ 801 }
-    requires shadow_len { length shadow.old ≡ 16456 }
-    requires output_len { length output.old ≡ 16456 }
-    requires spectra_len { length spectra.old ≡ 16456 }
-    requires powers_len { length powers.old ≡ 8232 }
-{
-    if !cases::is_case(line) {
-        return refused(stdout, tally, state);
-    }
-    let weights = cases::field(line, 39);
-    let shadows = cases::high(weights) as usize;
-    let outputs = cases::low(weights) as usize;
-    let slots = cases::high(cases::field(line, 40)) as usize;
-    let bins = cases::field(line, 45) as usize;
-    if 16456 < shadows || 16456 < outputs {
-        return refused(stdout, tally, state);
-    }
-    if 16456 < slots || 8232 < bins {
-        return refused(stdout, tally, state);
-    }
-    taken(
-        stdout,
-        tally,
-        state,
-        line,
-        &mut shadow[..shadows],
-        &mut output[..outputs],
-        &mut spectra[..slots],
-        &mut powers[..bins],
-    )
-}
-
-// The same, with what is lent to the call.
-fn taken<W: Write>(
-    stdout: &mut W,
-    tally: Tally,
-    state: TauCanceller,
-    line: &[u8],
-    shadow: &mut [f64],
-    output: &mut [f64],
-    spectra: &mut [f64],
-    powers: &mut [f64],
-) -> Turn
-    requires { length line.now ≡ 801 }
-{
-    let got = called(line, state, shadow, output, spectra, powers);
-    finished(
-        stdout,
-        tally,
-        line,
-        got,
-        cases::hash_of(shadow),
-        cases::hash_of(output),
-        cases::hash_of(spectra),
-        cases::hash_of(powers),
-    )
-}
-
-// The same, with what the call came to.
-fn finished<W: Write>(
-    stdout: &mut W,
-    tally: Tally,
-    line: &[u8],
-    got: Got,
-    shadow: u64,
-    output: u64,
-    spectra: u64,
-    powers: u64,
-) -> Turn
-    requires { length line.now ≡ 801 }
-{
-    let state = got.state;
-    if !got.is_known {
-        return refused(stdout, tally, state);
-    }
-    let answer = [
-        halves(got.refusal as u64, got.delivered as u64),
-        got.transfers,
-        got.divergence_resets,
-        halves(got.reason as u64, got.overs),
-    ];
-    let first = [
-        halves(flag(got.double_talk), got.outcome as u64),
-        got.leak,
-        got.hash,
-    ];
-    let numbers = numbers_of(first, state, shadow, output, spectra);
-    Turn {
-        tally: compared(stdout, tally, line, answer, powers, numbers),
-        state,
-    }
-}
-
-fn flag(is_so: bool) -> u64 {
-    if is_so { 1 } else { 0 }
-}
-
-fn refused<W: Write>(stdout: &mut W, tally: Tally, state: TauCanceller) -> Turn {
-    Turn {
-        tally: cases::refuse(stdout, tally),
-        state,
-    }
-}
-
-// One judgement a line, by the first number that differs: of fields 41 to 44, then 46, then of 8 to 38.
-fn compared<W: Write>(
-    stdout: &mut W,
-    tally: Tally,
-    line: &[u8],
-    answer: [u64; 4],
-    powers: u64,
-    got: [u64; 31],
-) -> Tally
-    requires { length line.now ≡ 801 }
-{
-    for k in 0..4usize {
-        let want = cases::field(line, 41 + k);
-        if answer[k] != want {
-            return cases::judge(stdout, tally, answer[k], want);
-        }
-    }
-    let kept = cases::field(line, 46);
-    if powers != kept {
-        return cases::judge(stdout, tally, powers, kept);
-    }
-    for k in 0..31usize {
-        let want = cases::field(line, 8 + k);
-        if got[k] != want {
-            return cases::judge(stdout, tally, got[k], want);
-        }
-    }
-    cases::judge(stdout, tally, 0, 0)
+    let mut engine = Engine {
+        state: fresh(),
+        buffers: Buffers::new(),
+    };
+    cases::replay("tau_cases", &mut engine, &mut rt.stdin(), &mut rt.stdout());
 }

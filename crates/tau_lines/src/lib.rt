@@ -21,10 +21,13 @@
 // A number of the state is the bits of an f64, and every NaN the same.
 #![tactic(auto)]
 
-mod arrays;
+mod buffers;
 mod made;
 mod state;
 
-pub use arrays::{Remade, remake};
-pub use made::{echo, noise};
-pub use state::{fresh, halves, numbers_of, set};
+pub use buffers::{Buffers, Lent};
+pub use made::{echo, remake};
+pub use state::{compared, fresh, set};
+
+/// The fields that both lists have, 0 to 38.
+pub type Fields = [u64; 39];
