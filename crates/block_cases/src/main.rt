@@ -51,9 +51,18 @@ impl Engine {
             .buffers
             .lend(weights, weights, weights, 257 * partitions)?;
         let last_block = done(letter, fields, &mut self.state, &mut lent)?;
-        let answer = Compared::first(&[joined(last_block.reason, last_block.overs), hash(lent.powers)], &last)
-            .or(Compared::first(&[last_block.outcome, last_block.leak, last_block.hash], &fields[8..11]))
-            .or(compared(fields, &self.state, &lent));
+        let answer = Compared::first(
+            &[
+                joined(last_block.reason, last_block.overs),
+                hash(lent.powers),
+            ],
+            &last,
+        )
+        .or(Compared::first(
+            &[last_block.outcome, last_block.leak, last_block.hash],
+            &fields[8..11],
+        ))
+        .or(compared(fields, &self.state, &lent));
         Some(answer)
     }
 }

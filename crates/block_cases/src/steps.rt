@@ -53,7 +53,12 @@ fn clear(lent: &mut Lent) {
 }
 
 // The noise of a block after the first has the hashes of the noise before as its seeds.
-fn run(fields: &Fields, state: &mut TauCanceller, adapt: bool, lent: &mut Lent) -> Option<LastBlock> {
+fn run(
+    fields: &Fields,
+    state: &mut TauCanceller,
+    adapt: bool,
+    lent: &mut Lent,
+) -> Option<LastBlock> {
     let (valid, blocks) = halves(fields[6]);
     let valid = valid as usize;
     if 256 < valid {

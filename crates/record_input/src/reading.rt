@@ -49,7 +49,10 @@ impl Input {
     }
 
     // The next record, or nothing at the input's end. The record stays in the block until the next call.
-    pub fn next_record<R: Read>(&mut self, stdin: &mut R) -> Result<Option<Record<'_>>, RecordsError>
+    pub fn next_record<R: Read>(
+        &mut self,
+        stdin: &mut R,
+    ) -> Result<Option<Record<'_>>, RecordsError>
         ensures* says { sem 𝓛 (Rests the_row self.entry (λ new. Says self.old.place result new)) }
     {
         let Some(header) = self.find(stdin)? else {
