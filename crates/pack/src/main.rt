@@ -51,7 +51,7 @@ fn feed<R: Read, W: Write, E: Write>(
     ensures { engine.new ≡ engine_by (block_of engine.old held.now) }
 {
     let mut out = [0u8; 6156];
-    let recorded = recorded::feed(
+    let answer = recorded::feed(
         engine.state,
         &mut engine.shadow,
         &mut engine.output,
@@ -60,6 +60,10 @@ fn feed<R: Read, W: Write, E: Write>(
         held,
         &mut out,
     );
+    // No call is refused (theorem `program` of recorded), and a refused one would change and write nothing.
+    let Ok(recorded) = answer else {
+        return Ok(());
+    };
     engine.state = recorded.state;
     streams.write_all(&out[..recorded.written])
 }
@@ -71,7 +75,7 @@ fn finish<R: Read, W: Write, E: Write>(
     ensures { engine.new ≡ engine_by (flush_of engine.old) }
 {
     let mut out = [0u8; 1036];
-    let recorded = recorded::finish(
+    let answer = recorded::finish(
         engine.state,
         &mut engine.shadow,
         &mut engine.output,
@@ -79,6 +83,10 @@ fn finish<R: Read, W: Write, E: Write>(
         &mut engine.powers,
         &mut out,
     );
+    // No call is refused (theorem `program` of recorded), and a refused one would change and write nothing.
+    let Ok(recorded) = answer else {
+        return Ok(());
+    };
     engine.state = recorded.state;
     streams.write_all(&out[..recorded.written])
 }

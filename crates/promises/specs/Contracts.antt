@@ -55,6 +55,7 @@ use Rattle.record.specs.Answers.{found_of, written_of}
 use Rattle.record.specs.Promises.{Read, Payload, Write}
 use Rattle.recorded.specs.contracts as recorded
 use Rattle.recorded.specs.Promises as recorded_promises
+use Rattle.recorded.specs.Recorded.{recorded_of}
 use Rattle.line_order.specs.contracts as line_order
 use Rattle.line_order.specs.Promises.{AtMost}
 use Rattle.manifest.specs.contracts as manifest
@@ -248,9 +249,9 @@ module _ {M : Type 1} {𝓤 : Ura M} (𝓛 : Logic 𝓤) (mem : Memory → SProp
       × Says records.write.ended (records.write.clauses 𝓛 mem run)
       (λ _ (kind, (payload, (out, _))) r (_, (_, (out', _))). Write kind payload.now out.now (written_of r) out'.now)
       × Says recorded.feed.ended (recorded.feed.clauses 𝓛 mem run)
-      (λ _ (s, (sh, (ou, (xs, (ps, (pairs, (out, _))))))) r (_, (sh', (ou', (xs', (ps', (_, (out', _))))))). recorded_promises.Feed (tau_of s sh.now ou.now xs.now ps.now) pairs.now out.now r sh'.now ou'.now xs'.now ps'.now out'.now)
+      (λ _ (s, (sh, (ou, (xs, (ps, (pairs, (out, _))))))) r (_, (sh', (ou', (xs', (ps', (_, (out', _))))))). recorded_promises.Feed (tau_of s sh.now ou.now xs.now ps.now) pairs.now out.now (recorded_of s r) sh'.now ou'.now xs'.now ps'.now out'.now)
       × Says recorded.finish.ended (recorded.finish.clauses 𝓛 mem run)
-      (λ _ (s, (sh, (ou, (xs, (ps, (out, _)))))) r (_, (sh', (ou', (xs', (ps', (out', _)))))). recorded_promises.Finish (tau_of s sh.now ou.now xs.now ps.now) out.now r sh'.now ou'.now xs'.now ps'.now out'.now)
+      (λ _ (s, (sh, (ou, (xs, (ps, (out, _)))))) r (_, (sh', (ou', (xs', (ps', (out', _)))))). recorded_promises.Finish (tau_of s sh.now ou.now xs.now ps.now) out.now (recorded_of s r) sh'.now ou'.now xs'.now ps'.now out'.now)
 
   -- the release list
   abbrev pub Lists : Type 2

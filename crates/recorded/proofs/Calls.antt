@@ -3,7 +3,7 @@
 --     fed-number, finished-number         and refused as they say
 --     fed-few, finished-few     how many samples it delivers at most
 --     feed-ready, finish-ready     so both records fit and have room
---     feed-refused, finish-refused, feed-left, finish-left     what the code leaves is what the definition says
+--     feed-refuses, finish-refuses, feed-left, finish-left     what the code leaves is what the definition says
 --     feed-runs, finish-runs     what an accepted call leaves
 --     feed-sends, finish-sends     the bytes of the records lie in out, accepted or refused
 use mathlib.Core.Path.{◌≡◌, refl, sym, ap, ◌∙◌, subst}
@@ -16,7 +16,11 @@ use lib.Dec.{eqb, leb}
 use lib.Ieee.{Float}
 use lib.ListN.{length, take, drop, length-append, length-take, length-replicate}
 use lib.Seq.{length-take-le, take-take}
+use Rattle.std.specs.Prelude.{Result, Ok, Err}
+use Rattle.std.specs.Result.{IsErrAnd}
 use Rattle.laws.specs.Choice.{pick, pick_yes, pick_no, pick-if}
+use Rattle.refusal.specs.declared.Refusal.{Refusal}
+use Rattle.refusal.specs.Refusal.{number_of}
 use Rattle.tau_state.specs.Constants.{zero32}
 use Rattle.tau_fresh.specs.Refusals.{process_refusal, flush_refusal}
 use Rattle.tau_fresh.proofs.Accepted.{accepted-state, process-accepted, flush-accepted}
@@ -30,8 +34,10 @@ use Rattle.capture.specs.Feeds.{Fed, room_of, fed_of, finished_of}
 use Rattle.capture.specs.Program.{sent_by, buffer, last_buffer}
 use Rattle.record.specs.Record.{fits_of}
 use Rattle.record.proofs.Accepted.{fits-pairs, fits-samples, fits-flush}
+use Rattle.record.proofs.Records.{some-number}
+use Rattle.recorded.specs.declared.Recorded as declared
 use Rattle.recorded.proofs.Both.{both-length}
-use Rattle.recorded.specs.Recorded.{taken_of, Left, refused_of, accepted_of, recorded_by, both_of, feed_of, finish_of, first_refusal}
+use Rattle.recorded.specs.Recorded.{recorded_of, taken_of, Left, refused_of, accepted_of, recorded_by, both_of, feed_of, finish_of, first_refusal}
 
 -- ---- what refuses
 
@@ -234,13 +240,24 @@ module _ (f : Fed) (e : Engine) (out : List ℕ) where
         ∙ by-accepted e 1036 out F (both_of 3 [] (sent_by F)) (finished-number e) (sym first ∙ none)
 
 module _ (e : Engine) (out : List ℕ) (n : ℕ) where
-  pub feed-refused : (pairs : List ℕ) → n ≡ first_number e 6156 out → (n ≡ 0 → ⊥) → refused_of n e out ≡ feed_of e pairs out
+  feed-refused : (pairs : List ℕ) → n ≡ first_number e 6156 out → (n ≡ 0 → ⊥) → refused_of n e out ≡ feed_of e pairs out
   unfolding feed_of
   feed-refused pairs h z = by-refused e 6156 out (fed_of e (taken_of pairs) buffer) _ (fed-number e (taken_of pairs) (taken-few pairs)) n h z
 
-  pub finish-refused : n ≡ first_number e 1036 out → (n ≡ 0 → ⊥) → refused_of n e out ≡ finish_of e out
+  finish-refused : n ≡ first_number e 1036 out → (n ≡ 0 → ⊥) → refused_of n e out ≡ finish_of e out
   unfolding finish_of
   finish-refused h z = by-refused e 1036 out (finished_of e last_buffer) _ (finished-number e) n h z
+
+-- the answer of a refused call, of which the code says that it is an `Err` of this refusal
+pub feed-refuses : (e : Engine) (pairs out : List ℕ) (r : Result declared.Recorded Refusal) (refusal : Refusal) → IsErrAnd r (λ x. x ≡ refusal) → number_of refusal ≡ first_number e 6156 out
+    → record { answer = recorded_of e.state r; shadow = e.shadow; output = e.output; spectra = e.spectra; powers = e.powers; out = out } ≡ feed_of e pairs out
+feed-refuses e pairs out (Ok v) refusal h f = absurd h
+feed-refuses e pairs out (Err x) refusal h f = feed-refused e out (number_of x) pairs (ap number_of h ∙ f) (some-number x)
+
+pub finish-refuses : (e : Engine) (out : List ℕ) (r : Result declared.Recorded Refusal) (refusal : Refusal) → IsErrAnd r (λ x. x ≡ refusal) → number_of refusal ≡ first_number e 1036 out
+    → record { answer = recorded_of e.state r; shadow = e.shadow; output = e.output; spectra = e.spectra; powers = e.powers; out = out } ≡ finish_of e out
+finish-refuses e out (Ok v) refusal h f = absurd h
+finish-refuses e out (Err x) refusal h f = finish-refused e out (number_of x) (ap number_of h ∙ f) (some-number x)
 
 -- ---- an accepted call
 

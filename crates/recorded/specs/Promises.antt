@@ -2,8 +2,7 @@
 -- out. The contracts cite these names, and crate promises proves that each admits one answer (Answers).
 use Rattle.std.specs.Prelude.{◌≡◌, List, ℕ, Float}
 use Rattle.tau_frame.specs.Pairs.{Engine}
-use Rattle.recorded.specs.declared.Recorded.{Recorded}
-use Rattle.recorded.specs.Recorded.{feed_of, finish_of}
+use Rattle.recorded.specs.Recorded.{Recorded, feed_of, finish_of}
 
 -- of the pairs' bytes and the buffer for records
 abbrev pub Feed : Engine → List ℕ → List ℕ → Recorded → List Float → List Float → List Float → List Float → List ℕ → Type 0

@@ -7,7 +7,7 @@
 -- A call is refused as the canceller's own is, and then with 5 where out has fewer places than such a call may need: 6,156 for the
 -- records of 4,096 and of 2,048 bytes, 1,036 for those of none and of 1,024. The canceller's call writes to capture's buffers, so that what
 -- is proved there of its program holds of these calls.
-use Rattle.std.specs.Prelude.{List, [], ◌++◌, ℕ, ◌*◌, eqb, leb, Float, length, take, drop}
+use Rattle.std.specs.Prelude.{List, [], ◌++◌, ℕ, ◌*◌, eqb, leb, Float, length, take, drop, Result, Ok, Err}
 use Rattle.laws.specs.Choice.{pick}
 use Rattle.tau_state.specs.declared.state.TauCanceller.{TauCanceller}
 use Rattle.tau_fresh.specs.Refusals.{state_refusal}
@@ -15,14 +15,26 @@ use Rattle.tau_frame.specs.Pairs.{Engine}
 use Rattle.wire.specs.Wire.{pairs_in}
 use Rattle.capture.specs.Feeds.{Fed, fed_of, finished_of}
 use Rattle.capture.specs.Program.{sent_by, buffer, last_buffer}
+use Rattle.refusal.specs.declared.Refusal.{Refusal}
+use Rattle.refusal.specs.Refusal.{number_of}
 use Rattle.record.specs.Record.{record_of}
-use Rattle.recorded.specs.declared.Recorded.{Recorded}
+use Rattle.recorded.specs.declared.Recorded as declared
 
 abbrev pub whole_in : List ℕ → List ℕ
 whole_in s = take (8 * pairs_in s) s
 
 abbrev pub taken_of : List ℕ → List ℕ
 taken_of pairs = whole_in (take 4096 pairs)
+
+-- the answer by numbers, of which the promises speak: what is refused has written nothing, and leaves the state as it was
+pub record Recorded : Type 0 where
+  pub refusal : ℕ
+  pub written : ℕ
+  pub state : TauCanceller
+
+abbrev pub recorded_of : TauCanceller → Result declared.Recorded Refusal → Recorded
+recorded_of s (Ok r) = record { refusal = 0; written = r.written; state = r.state }
+recorded_of s (Err refusal) = record { refusal = number_of refusal; written = 0; state = s }
 
 -- after a call
 pub record Left : Type 0 where

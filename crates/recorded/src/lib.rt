@@ -7,20 +7,20 @@
 #![tactic(auto)]
 
 ghost use Rattle.std.specs.Prelude.{◌≡◌, true, ◌++◌, ◌≤◌, length, drop};
+ghost use Rattle.refusal.specs.Refusal.{number_in};
 ghost use Rattle.record.specs.Kind.{number_of};
 ghost use Rattle.record.specs.Record.{fits_of};
-ghost use Rattle.recorded.specs.Recorded.{both_of, first_refusal};
+ghost use Rattle.recorded.specs.Recorded.{recorded_of, both_of, first_refusal};
 ghost use Rattle.recorded.specs.Promises.{Feed, Finish};
 
-use numbers::lesser;
 use record::Kind;
+use refusal::Refusal;
 use tau_fresh::refusals::state_refusal;
 use tau_state::state::TauCanceller;
 
 // How many bytes of the buffer the records take up, and the state after the call.
 #[derive(Clone, Copy)]
 pub struct Recorded {
-    pub refusal: u32,
     pub written: usize,
     pub state: TauCanceller,
 }
@@ -35,45 +35,19 @@ pub fn feed(
     powers: &mut [f64],
     pairs: &[u8],
     out: &mut [u8],
-) -> Recorded
-    ensures { Feed (record { state = s; shadow = shadow.old; output = output.old; spectra = spectra.old; powers = powers.old }) pairs.now out.old result shadow.new output.new spectra.new powers.new out.new }
+) -> Result<Recorded, Refusal>
+    ensures { Feed (record { state = s; shadow = shadow.old; output = output.old; spectra = spectra.old; powers = powers.old }) pairs.now out.old (recorded_of s result) shadow.new output.new spectra.new powers.new out.new }
 {
-    let refusal = first_refusal(
-        s,
-        shadow.len(),
-        output.len(),
-        spectra.len(),
-        powers.len(),
-        6156,
-        out.len(),
-    );
-    if refusal != 0 {
-        return Recorded {
-            refusal,
-            written: 0,
-            state: s,
-        };
-    }
-    let end = lesser(pairs.len(), 4096) / 8 * 8;
+    check(s, shadow, output, spectra, powers, 6156, out)?;
+    let taken = &pairs[..pairs.len().min(4096) / 8 * 8];
     // As long as the buffer of program `aec`, so that what is proved of its calls holds of this one.
     let mut bytes = [0u8; 16384];
-    let answer = capture::feed(
-        s,
-        shadow,
-        output,
-        spectra,
-        powers,
-        &pairs[..end],
-        &mut bytes,
-    );
-    let sent = 4 * answer.delivered;
-    let written = put(Kind::Pairs, &pairs[..end], &bytes[..sent], out);
-    let state = answer.state;
-    Recorded {
-        refusal: 0,
+    let fed = capture::feed(s, shadow, output, spectra, powers, taken, &mut bytes);
+    let written = put(Kind::Pairs, taken, &bytes[..4 * fed.delivered], out);
+    Ok(Recorded {
         written,
-        state,
-    }
+        state: fed.state,
+    })
 }
 
 // What waits for its block is flushed: a record of kind 3, and one of kind 2 with the bytes of what was delivered. 256 samples are more
@@ -85,57 +59,42 @@ pub fn finish(
     spectra: &mut [f64],
     powers: &mut [f64],
     out: &mut [u8],
-) -> Recorded
-    ensures { Finish (record { state = s; shadow = shadow.old; output = output.old; spectra = spectra.old; powers = powers.old }) out.old result shadow.new output.new spectra.new powers.new out.new }
+) -> Result<Recorded, Refusal>
+    ensures { Finish (record { state = s; shadow = shadow.old; output = output.old; spectra = spectra.old; powers = powers.old }) out.old (recorded_of s result) shadow.new output.new spectra.new powers.new out.new }
 {
-    let refusal = first_refusal(
-        s,
-        shadow.len(),
-        output.len(),
-        spectra.len(),
-        powers.len(),
-        1036,
-        out.len(),
-    );
-    if refusal != 0 {
-        return Recorded {
-            refusal,
-            written: 0,
-            state: s,
-        };
-    }
+    check(s, shadow, output, spectra, powers, 1036, out)?;
     let mut bytes = [0u8; 1024];
-    let answer = capture::finish(s, shadow, output, spectra, powers, &mut bytes);
-    let sent = 4 * answer.delivered;
-    let written = put(Kind::Flush, b"", &bytes[..sent], out);
-    let state = answer.state;
-    Recorded {
-        refusal: 0,
+    let flushed = capture::finish(s, shadow, output, spectra, powers, &mut bytes);
+    let written = put(Kind::Flush, b"", &bytes[..4 * flushed.delivered], out);
+    Ok(Recorded {
         written,
-        state,
-    }
+        state: flushed.state,
+    })
 }
 
 // What can refuse a call, in document 01's order: the state, the lent buffers' lengths, the places of `out`.
-fn first_refusal(
+fn check(
     s: TauCanceller,
-    shadow: usize,
-    output: usize,
-    spectra: usize,
-    powers: usize,
+    shadow: &[f64],
+    output: &[f64],
+    spectra: &[f64],
+    powers: &[f64],
     places: usize,
-    room: usize,
-) -> u32
-    ensures { result ≡ first_refusal s shadow output spectra powers places room }
+    out: &[u8],
+) -> Result<(), Refusal>
+    ensures { number_in result ≡ first_refusal s (length shadow.now) (length output.now) (length spectra.now) (length powers.now) places (length out.now) }
 {
-    let first = state_refusal(s, shadow, output, spectra, powers);
-    if first != 0 {
-        return first;
+    let number = state_refusal(s, shadow.len(), output.len(), spectra.len(), powers.len());
+    if number == 6 {
+        return Err(Refusal::StateOutOfRange);
     }
-    if room < places {
-        return 5;
+    if number != 0 {
+        return Err(Refusal::WrongLength);
     }
-    0
+    if out.len() < places {
+        return Err(Refusal::NoRoom);
+    }
+    Ok(())
 }
 
 // A record of this kind, and one of kind 2 behind it. How many bytes both take up.
