@@ -42,7 +42,7 @@ impl Noise {
     }
 }
 
-/// Bytes, as `cases::noise8` makes them: of each word the lowest.
+/// Bytes, as `cases::Noise` makes them: of each word the lowest.
 pub fn noise8(seed: u64, count: usize) -> Vec<u8> {
     let words = std::iter::successors(Some(turned(seed)), |word| Some(turned(*word)));
     words.map(|word| word as u8).take(count).collect()
@@ -119,7 +119,7 @@ pub fn bits32(x: f32) -> u32 {
     }
 }
 
-/// As `cases::hash_of`, `cases::hash_of32` and `cases::hash_of8` have it.
+/// As `cases::hash` and `cases::hash_bytes` have it.
 pub fn hash(numbers: &[f64]) -> u64 {
     numbers.iter().fold(HASH, |h, x| turned(h ^ bits(*x)))
 }

@@ -1,4 +1,4 @@
-//! How a line says what samples are made, as src/made.rt of the program that replays it makes them.
+//! How a line says what samples are made, as `cases::Recipe` makes them.
 
 #![allow(dead_code)] // a driver uses a part
 
