@@ -35,6 +35,7 @@ impl<R: Read, W: Write, E: Write> Streams<R, W, E> {
     pub fn read(&mut self, block: &mut [u8]) -> usize
         ensures in_bounds { result ≤ length block.new }
         ensures bytes { Consumes (R.remaining self.old.input) (R.remaining self.new.input) (take result block.new) }
+        ensures output_stays { self.new.output ≡ self.old.output }
     {
         match self.input.read(block) {
             Ok(held) => held,
@@ -49,6 +50,7 @@ impl<R: Read, W: Write, E: Write> Streams<R, W, E> {
     pub fn fill(&mut self, block: &mut [u8]) -> usize
         ensures in_bounds { result ≤ length block.new }
         ensures bytes { Consumes (R.remaining self.old.input) (R.remaining self.new.input) (take result block.new) }
+        ensures output_stays { self.new.output ≡ self.old.output }
     {
         match fill(&mut self.input, block) {
             Ok(held) => held,
@@ -60,7 +62,9 @@ impl<R: Read, W: Write, E: Write> Streams<R, W, E> {
     }
 
     pub fn write_all(&mut self, bytes: &[u8]) -> Result<(), ProgramError>
-        ensures { OnOk result (Appends (W.contents self.old.output) (W.contents self.new.output) bytes.now) }
+        ensures appended { OnOk result (Appends (W.contents self.old.output) (W.contents self.new.output) bytes.now) }
+        ensures input_stays { self.new.input ≡ self.old.input }
+        ensures errors_stay { self.new.errors ≡ self.old.errors }
     {
         self.output
             .write_all(bytes)
@@ -69,7 +73,8 @@ impl<R: Read, W: Write, E: Write> Streams<R, W, E> {
 
     // The program's name and the error, in a line on standard error.
     pub fn say(&mut self, error: ProgramError)
-        ensures { self.new.input ≡ self.old.input }
+        ensures input_stays { self.new.input ≡ self.old.input }
+        ensures output_stays { self.new.output ≡ self.old.output }
     {
         let _ = writeln!(self.errors, "{}: {error}", self.program);
     }

@@ -36,20 +36,20 @@ pub record Handed (place : ℕ) (r : Record) (after : Input) : Type 0 where
   pub goes_on : after.place ≡ place_after place (6 + length r.payload.now)
 
 abbrev pub Fails : ℕ → RecordsError → Input → Type 0
-Fails place (Refused refusal at) i = (at ≡ place) × (front_of (held_of i) i.ended ≡ fronts.Refused (refusals.number_of refusal))
-Fails place (Failed error) i = error ≡ ReadFailed
+Fails place (Refused refusal at) i = (at ≡ place) × ((i.place ≡ place) × (front_of (held_of i) i.ended ≡ fronts.Refused (refusals.number_of refusal)))
+Fails place (Failed error) i = (i.place ≡ place) × (error ≡ ReadFailed)
 
-abbrev pub Ends : Input → Type 0
-Ends i = front_of (held_of i) i.ended ≡ fronts.End
+abbrev pub Ends : ℕ → Input → Type 0
+Ends place i = (i.place ≡ place) × (front_of (held_of i) i.ended ≡ fronts.End)
 
 abbrev pub Says : ℕ → Result (Option Record) RecordsError → Input → Type 0
 Says place (Ok (Some r)) i = Handed place r i
-Says place (Ok None) i = Ends i
+Says place (Ok None) i = Ends place i
 Says place (Err e) i = Fails place e i
 
 abbrev pub Found : ℕ → Result (Option Header) RecordsError → Input → Type 0
 Found place (Ok (Some h)) i = (i.place ≡ place) × (read_of (held_of i) ≡ record { refusal = 0; kind = number_of h.kind; size = 6 + h.len })
-Found place (Ok None) i = Ends i
+Found place (Ok None) i = Ends place i
 Found place (Err e) i = Fails place e i
 
 -- how many turns of the loop are left at most: as many as the block has places free, and one more
@@ -60,4 +60,4 @@ abbrev pub Grew : Input → Result Unit RecordsError → Input → Type 0
 Grew i (Ok u) after =
     (after.place ≡ i.place)
     × ((take (i.end - i.from) (held_of after) ≡ held_of i) × (turns_of after < turns_of i))
-Grew i (Err e) after = e ≡ Failed ReadFailed
+Grew i (Err e) after = (after.place ≡ i.place) × (e ≡ Failed ReadFailed)
