@@ -5,16 +5,20 @@
 --     f.ended, f.clauses      the signature of the function f and its contract, which the toolchain makes of src/
 --     λ _ (..) r (..). p      the parameters, one name for each; the answer; the parameters again, as the call leaves them; and what is said
 --     now b                   what the lent buffer b holds
-use Rattle.std.specs.Prelude.{◌≡◌, List, Float}
+use Rattle.std.specs.Prelude.{◌≡◌, List, Float, from_bits, to_bits}
 use seplogic.Ra.Ura.{Ura}
 use base.Logic.{SProp, emp, sep}
 use prog.Memory.{Memory}
 use prog.Routine.{Routine}
+use mir.Syntax.{Dict}
 use types.Logic.{Logic}
 use contract.Lifetimes.{Lfts}
 use contract.Monad.{Fun, fact}
+use denote.RattleType.{RattleType}
 use denote.Triple.Entry.{Args, Res}
 use denote.Triple.Clauses.{Ended, Clauses, AtExit}
+use Rattle.std.specs.declared.clone.Clone as clone
+use Rattle.numbers.specs.declared.float.Float as float
 use Rattle.numbers.specs.contracts as numbers
 use Rattle.numbers.specs.contracts.float.F64Float as f64
 use Rattle.numbers.specs.contracts.float.F32Float as f32
@@ -91,6 +95,10 @@ module _ {M : Type 1} {𝓤 : Ura M} (𝓛 : Logic 𝓤) (mem : Memory → SProp
         ensures = λ _ r e. sep 𝓤 (fact 𝓤 (p κs a r e)) (fact 𝓤 (q κs a r e));
       })
 
+  -- the contract c of a function over a trait ensures p; what it asks for is that its types have the trait
+  abbrev pub Gives : (T : Ended) → Clauses 𝓤 T → Saying T → Type 2
+  Gives T c p = (κs : Lfts T.signature.lifetimes) (a : Args T.signature κs) → (c κs a).ensures ≡ (λ _ r e. fact 𝓤 (p κs a r e))
+
   -- numbers, narrow_list; of a function over the trait Float, its method at each width
   abbrev pub Numbers : Type 2
   Numbers =
@@ -124,6 +132,21 @@ module _ {M : Type 1} {𝓤 : Ura M} (𝓛 : Logic 𝓤) (mem : Memory → SProp
       × Says narrow_list.narrow_into.ended (narrow_list.narrow_into.clauses 𝓛 mem run)
       (λ _ (xs, (out, _)) r (_, (out', _)). NarrowInto xs.now out.now r out'.now)
       × Says narrow_list.overs_scaled.ended (narrow_list.overs_scaled.clauses 𝓛 mem run) (λ _ (xs, (scale, _)) r _. OversScaled xs.now scale r)
+
+  -- the functions of numbers over the trait Float, of a type F with patterns B
+  abbrev pub AnyWidth : Type 2
+  AnyWidth =
+      (F B : RattleType) (width : float.Ghosts F.Denot B.Denot) (d : Dict) (copy : clone.Ghosts F.Denot) (e : Dict)
+      → Gives (numbers.is_finite.ended F B width d copy e) (numbers.is_finite.clauses F B width d copy e 𝓛 mem run)
+      (λ _ (x, _) r _. IsFinite (width.float x) r)
+      × Gives (numbers.abs.ended F B width d copy e) (numbers.abs.clauses F B width d copy e 𝓛 mem run)
+      (λ _ (x, _) r _. Abs (width.float x) (width.float r))
+      × Gives (numbers.max.ended F B width d copy e) (numbers.max.clauses F B width d copy e 𝓛 mem run)
+      (λ _ (x, (y, _)) r _. Max (width.float x) (width.float y) (width.float r))
+      × Gives (numbers.from_bits.ended F B width d copy e) (numbers.from_bits.clauses F B width d copy e 𝓛 mem run)
+      (λ _ (b, _) r _. width.float r ≡ from_bits width.format (width.pattern b))
+      × Gives (numbers.to_bits.ended F B width d copy e) (numbers.to_bits.clauses F B width d copy e 𝓛 mem run)
+      (λ _ (x, _) r _. width.pattern r ≡ to_bits width.format (width.float x))
 
   -- trig, and the two tables
   abbrev pub Tables : Type 2
