@@ -174,19 +174,33 @@ impl From<Result<usize, Refusal>> for Inverted {
     }
 }
 
-// 512 samples to 257 bins. Refused, with nothing written, where a length is wrong.
+// 512 samples to 257 bins. Refused, with nothing written, where a length is wrong: that is seen before the table and the scratch are made.
+#[tactic(auto, using(laws::specs::Choice::choices), unfolding(crate::specs::Calls::forward_of, laws::specs::Choice::pick))]
 pub fn forward(input: &[f32], out: &mut [f64]) -> Result<(), Refusal>
     ensures { Forward input.now out.old (number_in result) out.new }
 {
+    if input.len() != 512 {
+        return Err(Refusal::WrongLength);
+    }
+    if out.len() != 514 {
+        return Err(Refusal::WrongLength);
+    }
     let table = trig::recombination();
     let mut scratch = [0.0; 1024];
     forward_with(&table, &mut scratch, input, out)
 }
 
-// 257 bins to 512 samples. How many of them went over.
+// 257 bins to 512 samples. How many of them went over. The lengths are seen first here too.
+#[tactic(auto, using(laws::specs::Choice::choices), unfolding(crate::specs::Calls::inverse_of, laws::specs::Choice::pick))]
 pub fn inverse(spectrum: &[f64], out: &mut [f32]) -> Result<usize, Refusal>
     ensures { Inverse spectrum.now out.old (inverted_of result) out.new }
 {
+    if spectrum.len() != 514 {
+        return Err(Refusal::WrongLength);
+    }
+    if out.len() != 512 {
+        return Err(Refusal::WrongLength);
+    }
     let table = trig::recombination();
     let mut scratch = [0.0; 1024];
     inverse_with(&table, &mut scratch, spectrum, out)
