@@ -25,7 +25,7 @@ over2-first f g [] h = absurd (omega arith)
 over2-first f g (x ∷ []) h = absurd (omega arith)
 over2-first f g (x ∷ y ∷ e) h = refl
 
-halves-at : (t x : List Float) (i : ℕ) → i < 256 → get_c (halves_of t x) i ≡ half_of t x i
+pub halves-at : (t x : List Float) (i : ℕ) → i < 256 → get_c (halves_of t x) i ≡ half_of t x i
 unfolding halves_of
 halves-at t x i h = let a = table2-at 256 (λ k. (half_of t x k).re) (λ k. (half_of t x k).im) i nan h in rw (a.0, a.1)
 
