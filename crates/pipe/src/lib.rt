@@ -6,8 +6,11 @@ mod program;
 ghost use Rattle.std.specs.Prelude.{◌≡◌, ◌≤◌, true, length, take, IfSome, IfNone};
 ghost use Rattle.std.specs.Io.KnownBytes.{Appends, Consumes, Keeps};
 ghost use Rattle.pipe.specs.Held.{held_of};
+ghost use Rattle.pipe.specs.Said.{line_of};
 
+use arrayvec::ArrayString;
 pub use program::{ProgramError, Streams};
+use std::fmt::{Display, Write as _};
 use std::io::{Read, Write};
 
 // A read failed, and before it the block was given so many bytes.
@@ -58,6 +61,18 @@ pub fn read_full<R: Read>(input: &mut R, block: &mut [u8]) -> usize
         Ok(held) => held,
         Err(failed) => failed.held,
     }
+}
+
+// Says why something failed, behind the program's name: a line on standard error, in one write. Only a line of more than 128 bytes goes out
+// in parts. Whether all of it was written.
+pub fn say_why<E: Write, D: Display>(errors: &mut E, program: &str, why: &D) -> bool
+    ensures { result ≡ true → IfSome (D.output why.now) (λ text. Appends (E.contents errors.old) (E.contents errors.new) (line_of program.now text)) }
+{
+    let mut line = ArrayString::<128>::new();
+    if writeln!(line, "{program}: {why}").is_ok() {
+        return write_all(errors, line.as_str().as_bytes());
+    }
+    writeln!(errors, "{program}: {why}").is_ok()
 }
 
 // The program's name, and what it has to say.

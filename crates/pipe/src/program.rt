@@ -2,7 +2,7 @@
 ghost use Rattle.std.specs.Prelude.{◌≡◌, ◌≤◌, length, take, OnOk};
 ghost use Rattle.std.specs.Io.KnownBytes.{Appends, Consumes};
 
-use crate::fill;
+use crate::{fill, say_why};
 use std::fmt;
 use std::io::{Read, Write};
 
@@ -76,6 +76,6 @@ impl<R: Read, W: Write, E: Write> Streams<R, W, E> {
         ensures input_stays { self.new.input ≡ self.old.input }
         ensures output_stays { self.new.output ≡ self.old.output }
     {
-        let _ = writeln!(self.errors, "{}: {error}", self.program);
+        say_why(&mut self.errors, self.program, &error);
     }
 }

@@ -40,5 +40,5 @@ fn reason(refusal: Refusal) -> &'static str {
 
 // The program's name and the error, in a line on standard error.
 pub fn say<R, W, E: Write>(streams: &mut Streams<R, W, E>, error: RecordsError) {
-    let _ = writeln!(streams.errors, "{}: {error}", streams.program);
+    pipe::say_why(&mut streams.errors, streams.program, &error);
 }

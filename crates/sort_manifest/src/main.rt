@@ -8,7 +8,7 @@ mod input;
 
 use input::{InputError, read_all};
 use manifest::{MOST_BYTES, SortError};
-use pipe::write_all;
+use pipe::{say_why, write_all};
 use std::fmt;
 use std::io::{Read, Write};
 
@@ -45,7 +45,7 @@ impl fmt::Display for Failure {
 fn main(rt: HostRuntime) {
     let mut text = [0u8; MOST_BYTES];
     if let Err(failure) = sort_input(&mut rt.stdin(), &mut rt.stdout(), &mut text) {
-        let _ = writeln!(rt.stderr(), "sort_manifest: {failure}");
+        say_why(&mut rt.stderr(), "sort_manifest", &failure);
     }
 }
 
