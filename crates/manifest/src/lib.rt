@@ -41,11 +41,14 @@ pub fn sort(text: &[u8], out: &mut [u8]) -> Result<usize, SortError>
     if text.len() > MOST_BYTES {
         return Err(SortError::TooLong);
     }
-    let mut lines: [&[u8]; MOST_LINES] = [&[]; MOST_LINES];
-    let count = place::order_lines(text, &mut lines).ok_or(SortError::TooManyLines)?;
+    if split::count_lines(text) > MOST_LINES {
+        return Err(SortError::TooManyLines);
+    }
     if out.len() < text.len() {
         return Err(SortError::NoRoom);
     }
+    let mut lines: [&[u8]; MOST_LINES] = [&[]; MOST_LINES];
+    let count = place::order_lines(text, &mut lines).ok_or(SortError::TooManyLines)?;
     output::write_lines(&lines[..count], &mut out[..text.len()]);
     Ok(text.len())
 }

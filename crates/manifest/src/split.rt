@@ -1,6 +1,7 @@
 // The lines of a text, one after another.
 ghost use Rattle.std.specs.Prelude.{◌≡◌, ◌==◌, ◌≤◌, ◌+◌, not, length, drop};
 ghost use Rattle.std.specs.List.{prefix_len};
+ghost use Rattle.manifest.specs.Lines.{lines_of};
 ghost use Rattle.manifest.specs.Steps.{up_to};
 
 // A text's first line, and what follows its newline.
@@ -13,6 +14,19 @@ pub fn split_line(text: &[u8]) -> (&[u8], &[u8])
         [_newline, after @ ..] => (line, after),
         [] => (line, rest),
     }
+}
+
+// How many lines a text has: one pass, and nothing is put in order.
+pub fn count_lines(text: &[u8]) -> usize
+    ensures { result ≡ length (lines_of text.now) }
+{
+    let mut count = 0usize;
+    let mut rest = text;
+    while !rest.is_empty() {
+        rest = split_line(rest).1;
+        count += 1;
+    }
+    count
 }
 
 fn line_len(text: &[u8]) -> usize

@@ -19,11 +19,11 @@ returns-in_err-count c =
     let m : 4096 < length (lines_of c.args.text.now) = search rules in
     subst (λ r. Sort c.args.text.now c.args.out.now (sorted_by r) c.args.out.now) (sym q) (too_many c.args.text.now c.args.out.now (omega arith) m)
 
+pub returns-then-count_lines-gt-MOST_LINES : goal.returns-then-count_lines-gt-MOST_LINES
+returns-then-count_lines-gt-MOST_LINES c = too_many c.args.text.now c.args.out.now (omega arith) (omega arith)
+
 pub returns-then-out-text : goal.returns-then-out-text
-returns-then-out-text c =
-    let h : Holds c.order_lines.new.lines (sort_of at_most (lines_of c.args.text.now)) c.in_ok-count.count = search rules in
-    let n = few c.args.text.now c.order_lines.new.lines c.in_ok-count.count h in
-    no_room c.args.text.now c.args.out.now (omega arith) (omega arith) (omega arith)
+returns-then-out-text c = no_room c.args.text.now c.args.out.now (omega arith) (omega arith) (omega arith)
 
 pub write_lines-requires : goal.write_lines-requires
 write_lines-requires c =
