@@ -9,7 +9,7 @@ use std::io::Read;
 
 // What is read of the input and not handed out yet: the block's bytes from `from` up to `end`. The first of them is the input's byte number
 // `place`. The block has room for the largest record, of 4,102 bytes, and for 32 KiB that are read ahead of it.
-#[derive(Drop)]
+#[derive(Clone, Copy)]
 pub struct Input {
     block: [u8; 36870],
     from: usize,
