@@ -284,11 +284,11 @@ fn half_as<B: Bins>(
     ensures refused_keeps { RefusedKeeps scratch.old (number_in result) scratch.new }
 {
     let table: &[f64; 514] = table.try_into()?;
-    let points: &mut [f64; 1024] = scratch.as_mut_array().ok_or(Refusal::WrongLength)?;
+    let all_points: &mut [f64; 1024] = scratch.as_mut_array().ok_or(Refusal::WrongLength)?;
     let source: &[f64; 514] = source.try_into()?;
     let half: &mut [f32; 256] = half.as_mut_array().ok_or(Refusal::WrongLength)?;
-    load_points::<B>(points, table, source);
-    Ok(half_at(points, later, half))
+    load_points::<B>(all_points, table, source);
+    Ok(half_at(all_points, later, half))
 }
 
 // The first or the later 256 samples of the inverse, over a lent table and scratch: who needs one half pays for one. All 512 are counted.
