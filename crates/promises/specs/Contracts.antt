@@ -15,6 +15,8 @@ use types.Logic.{Logic}
 use contract.Lifetimes.{Lfts}
 use contract.Monad.{Fun, fact}
 use denote.RattleType.{RattleType}
+use denote.Builtin as builtin
+use denote.Triple.Carry.{AllWithin, insides}
 use denote.Triple.Entry.{Args, Res}
 use denote.Triple.Clauses.{Ended, Clauses, AtExit}
 use Rattle.std.specs.declared.clone.Clone as clone
@@ -76,6 +78,10 @@ rho_of s w h = record { state = s; weights = w; history = h }
 abbrev pub tau_of : TauCanceller → List Float → List Float → List Float → List Float → Engine
 tau_of s sh ou xs ps = record { state = s; shadow = sh; output = ou; spectra = xs; powers = ps }
 
+-- Numbers and their patterns name no lifetime: what a function over Float asks (Gives, below) always holds at f64 and at f32.
+abbrev pub AsksNothing : Type 0
+AsksNothing = (κs : Lfts 2) → AllWithin 2 κs (builtin.f64.lives, (builtin.u64.lives, tt)) × AllWithin 2 κs (builtin.f32.lives, (builtin.u32.lives, tt))
+
 -- in the prover's logic, over any heap, memory and run
 module _ {M : Type 1} {𝓤 : Ura M} (𝓛 : Logic 𝓤) (mem : Memory → SProp 𝓤) (run : Routine → Fun 𝓤) where
   -- the contract c asks for nothing and ensures p
@@ -95,9 +101,10 @@ module _ {M : Type 1} {𝓤 : Ura M} (𝓛 : Logic 𝓤) (mem : Memory → SProp
         ensures = λ _ r e. sep 𝓤 (fact 𝓤 (p κs a r e)) (fact 𝓤 (q κs a r e));
       })
 
-  -- the contract c of a function over a trait ensures p; what it asks for is that its types have the trait
-  abbrev pub Gives : (T : Ended) → Clauses 𝓤 T → Saying T → Type 2
-  Gives T c p = (κs : Lfts T.signature.lifetimes) (a : Args T.signature κs) → (c κs a).ensures ≡ (λ _ r e. fact 𝓤 (p κs a r e))
+  -- the contract c of a function over types ensures p, and asks only that the call's lifetimes lie within ℓs, those that the types name
+  abbrev pub Gives : (T : Ended) → Lfts T.signature.lifetimes → Clauses 𝓤 T → Saying T → Type 2
+  Gives T ℓs c p =
+      c ≡ (λ κs a. record { ghost = Unit {0}; requires = λ _. insides 𝓤 T.signature.lifetimes κs ℓs (emp 𝓤); ensures = λ _ r e. fact 𝓤 (p κs a r e) })
 
   -- numbers, narrow_list; of a function over the trait Float, its method at each width
   abbrev pub Numbers : Type 2
@@ -137,15 +144,15 @@ module _ {M : Type 1} {𝓤 : Ura M} (𝓛 : Logic 𝓤) (mem : Memory → SProp
   abbrev pub AnyWidth : Type 2
   AnyWidth =
       (F B : RattleType) (width : float.Ghosts F.Denot B.Denot) (d : Dict) (copy : clone.Ghosts F.Denot) (e : Dict)
-      → Gives (numbers.is_finite.ended F B width d copy e) (numbers.is_finite.clauses F B width d copy e 𝓛 mem run)
+      → Gives (numbers.is_finite.ended F B width d copy e) (F.lives, (B.lives, tt)) (numbers.is_finite.clauses F B width d copy e 𝓛 mem run)
       (λ _ (x, _) r _. IsFinite (width.float x) r)
-      × Gives (numbers.abs.ended F B width d copy e) (numbers.abs.clauses F B width d copy e 𝓛 mem run)
+      × Gives (numbers.abs.ended F B width d copy e) (F.lives, (B.lives, tt)) (numbers.abs.clauses F B width d copy e 𝓛 mem run)
       (λ _ (x, _) r _. Abs (width.float x) (width.float r))
-      × Gives (numbers.max.ended F B width d copy e) (numbers.max.clauses F B width d copy e 𝓛 mem run)
+      × Gives (numbers.max.ended F B width d copy e) (F.lives, (B.lives, tt)) (numbers.max.clauses F B width d copy e 𝓛 mem run)
       (λ _ (x, (y, _)) r _. Max (width.float x) (width.float y) (width.float r))
-      × Gives (numbers.from_bits.ended F B width d copy e) (numbers.from_bits.clauses F B width d copy e 𝓛 mem run)
+      × Gives (numbers.from_bits.ended F B width d copy e) (F.lives, (B.lives, tt)) (numbers.from_bits.clauses F B width d copy e 𝓛 mem run)
       (λ _ (b, _) r _. width.float r ≡ from_bits width.format (width.pattern b))
-      × Gives (numbers.to_bits.ended F B width d copy e) (numbers.to_bits.clauses F B width d copy e 𝓛 mem run)
+      × Gives (numbers.to_bits.ended F B width d copy e) (F.lives, (B.lives, tt)) (numbers.to_bits.clauses F B width d copy e 𝓛 mem run)
       (λ _ (x, _) r _. width.pattern r ≡ to_bits width.format (width.float x))
 
   -- trig, and the two tables
