@@ -1,8 +1,11 @@
 -- One answer each: two answers that meet a promise, each with what every lent buffer holds after, are the same. A promise is a relation,
 -- which its crate names in specs/Promises; that a function's contract is its relation is Contracts. Weaken one, and its line here is false.
 -- Where a call writes to buffers, its answer and these make one record. What an accepted call leaves in a lent scratch is open: no line
--- speaks of it. Statements; proved in proofs/Answers.antt.
-use Rattle.std.specs.Prelude.{◌≡◌, Bool, List, ℕ, Float}
+-- speaks of it. A promise of a function that answers a Result is over numbers that are read off it, and Readings has that answers with the
+-- same numbers are the same. Statements; proved in proofs/Answers.antt.
+use Rattle.std.specs.Prelude.{◌≡◌, Bool, List, ℕ, Float, Result}
+use Rattle.refusal.specs.declared.Refusal.{Refusal}
+use Rattle.refusal.specs.Refusal.{number_in}
 use Rattle.numbers.specs.Promises.{Abs, Min, Max, Clamp, Lesser, IsFinite, FiniteOrZero, Widen, Narrow, NarrowBits, NarrowTold, KindNumber, IsPlain, PlainSquares, Rounded}
 use Rattle.numbers.specs.Promises.{FromBits, FromBits32, ToBits, ToBits32}
 use Rattle.numbers.specs.declared.narrowing.Kind.{Kind}
@@ -15,11 +18,15 @@ use Rattle.complex_fft.specs.declared.complex_fft.Wings.{Wings}
 use Rattle.complex_fft.specs.Calls.{Wrote}
 use Rattle.complex_fft.specs.Promises.{ComplexForward, ComplexInverse, ReversalTable, Butterfly}
 use Rattle.fft.specs.Calls.{Sampled}
-use Rattle.fft.specs.Promises.{Forward, Inverse, ForwardWith, InverseWith, InverseHalfWith, RefusedKeeps}
+use Rattle.fft.specs.declared.real_fft.Inverted.{Inverted}
+use Rattle.fft.specs.Promises.{Forward, Inverse, ForwardWith, InverseWith, InverseHalfWith, RefusedKeeps, inverted_of}
 use Rattle.rho_sample.specs.Sample as rho_sample
+use Rattle.rho_state.specs.declared.state.RhoCanceller.{RhoCanceller}
 use Rattle.rho.specs.declared.calls.Answer as rho_answer
+use Rattle.rho.specs.declared.calls.Started.{Started}
 use Rattle.rho.specs.Calls as rho_calls
 use Rattle.rho.specs.Promises as rho
+use Rattle.tau_state.specs.declared.state.TauCanceller.{TauCanceller}
 use Rattle.tau_frame.specs.Pairs.{Engine}
 use Rattle.tau.specs.Calls.{Begun, Called}
 use Rattle.tau.specs.Promises as tau
@@ -29,14 +36,19 @@ use Rattle.capi.specs.Promises.{TauProcess, TauFlush, RecordRead, NarrowKind}
 use Rattle.wire.specs.Promises.{WholePairs, ReadNear, ReadFar, KeepRest, WriteSamples}
 use Rattle.capture.specs.Feeds.{Fed}
 use Rattle.capture.specs.Promises.{Feed, Finish}
+use Rattle.record.specs.declared.header.Header.{Header}
+use Rattle.record.specs.declared.writing.Written.{Written}
+use Rattle.record.specs.Answers.{found_of, written_of}
 use Rattle.record.specs.Reading.{Found}
 use Rattle.record.specs.Writing as writing
 use Rattle.record.specs.Promises.{Read, Payload, Write}
-use Rattle.recorded.specs.Recorded.{Left}
+use Rattle.recorded.specs.declared.Recorded as declared
+use Rattle.recorded.specs.Recorded.{Recorded, Left, recorded_of}
 use Rattle.recorded.specs.Promises as recorded
 use Rattle.line_order.specs.Promises.{AtMost}
 use Rattle.manifest.specs.Sorted as sorted
-use Rattle.manifest.specs.Promises.{Sort}
+use Rattle.manifest.specs.declared.SortError.{SortError}
+use Rattle.manifest.specs.Promises.{Sort, Sorted, sorted_by}
 
 -- two answers that meet the promise are the same
 abbrev pub One : (A : Type 0) → (A → Type 0) → Type 0
@@ -147,3 +159,19 @@ abbrev pub Lists : Type 0
 Lists = (a b text out : List ℕ)
     → One Bool (AtMost a b)
     × One sorted.Answer (λ c. Sort text out (record { refusal = c.refusal; written = c.written }) c.out)
+
+-- a reading tells any two answers apart: those of which it reads the same are the same
+abbrev pub TellsApart : (A B : Type 0) → (A → B) → Type 0
+TellsApart A B reading = (r s : A) → reading r ≡ reading s → r ≡ s
+
+-- the readings by which Contracts gives promises of answers: rho's with the state that the call leaves, recorded's after the state before
+abbrev pub Readings : Type 0
+Readings = (before : TauCanceller)
+    → TellsApart (Result (Unit {0}) Refusal) ℕ number_in
+    × TellsApart (Result ℕ Refusal) Inverted inverted_of
+    × TellsApart (Result RhoCanceller Refusal) Started rho_calls.started_of
+    × TellsApart (Result ℕ Refusal × RhoCanceller) rho_answer.Answer (λ (r, state). rho_calls.answered_of r state)
+    × TellsApart (Result Header Refusal) Found found_of
+    × TellsApart (Result ℕ Refusal) Written written_of
+    × TellsApart (Result declared.Recorded Refusal) Recorded (recorded_of before)
+    × TellsApart (Result ℕ SortError) Sorted sorted_by
