@@ -2,7 +2,9 @@
 --     length-held      how many bytes are held
 --     grew             what a read leaves
 --     ends-within      a whole record ends within what is held
+--     saturates        the place behind a record
 --     handed           what is handed out, and what is held then
+--     held-behind      which is what follows it
 use mathlib.Core.Path.{◌≡◌, refl, sym, ap, ◌∙◌, subst}
 use mathlib.Core.Bool.{false}
 use mathlib.Core.List.{List}
@@ -14,7 +16,7 @@ use lib.Dec.{eqb, ltb}
 use lib.ListN.{length, take, drop, length-drop}
 use lib.Seq.{length-take-le}
 use denote.Ref.{Bor}
-use Rattle.std.specs.Prelude.{Ok, Option, Some}
+use Rattle.std.specs.Prelude.{Ok, Option, None, Some}
 use Rattle.std.specs.List.{copy_within}
 use Rattle.std.proofs.Common.{zero-add}
 use Rattle.std.proofs.lemmas.Bool.{ltb-true, ltb-false}
@@ -22,13 +24,15 @@ use Rattle.std.proofs.lemmas.List.{drop-take, drop-drop, take-take}
 use Rattle.std.proofs.lemmas.List.Edits.{take-paste}
 use Rattle.laws.specs.Choice.{pick-if, pick_no}
 use Rattle.record.specs.declared.header.Header.{Header}
+use Rattle.record.specs.declared.kind.Kind.{Kind}
 use Rattle.record.specs.Kind.{number_of}
 use Rattle.record.specs.Reading.{Found, length_in, read_refusal, read_of, payload_of}
 use Rattle.record.proofs.Records.{read-refusal, read-yes, payload-yes}
 use Rattle.record_input.specs.declared.reading.Input.{Input}
+use Rattle.record_input.specs.declared.reading.Record.{Record}
 use Rattle.record_input.specs.Front.{place_after}
 use Rattle.record_input.specs.Reading as says
-use Rattle.record_input.specs.Reading.{held_of, turns_of, Grew, Handed}
+use Rattle.record_input.specs.Reading.{bytes_at, held_of, turns_of, Grew, Passed, Handed}
 use Rattle.record_input.proofs.Held.{size-within}
 
 pub length-held : (i : Input) → length (held_of i) ≡ i.end - i.from
@@ -65,7 +69,7 @@ module _ (i : Input) (m v : List ℕ) (k : ℕ) where
 -- ---- a record is handed out
 
 -- the place behind a record
-saturates : (place n : ℕ) → place < 2 ^ 64 → min (place + n) (2 ^ 64 - 1) ≡ place_after place n
+pub saturates : (place n : ℕ) → place < 2 ^ 64 → min (place + n) (2 ^ 64 - 1) ≡ place_after place n
 unfolding place_after
 saturates place n small =
     pick-if (λ (x : ℕ). min (place + n) (2 ^ 64 - 1) ≡ x) (ltb (2 ^ 64 - 1 - place) n)
@@ -81,7 +85,7 @@ ends-within i k n e =
 -- h is the header of a whole record at the front of what is held
 module _ (i : Input) (h : Header) (e : read_of (held_of i) ≡ record { refusal = 0; kind = number_of h.kind; size = 6 + h.len }) where
   abbrev part : List ℕ
-  part = take (i.from + (6 + h.len) - (i.from + 6)) (drop (i.from + 6) i.block)
+  part = take h.len (drop (i.from + 6) i.block)
 
   ends : i.from + (6 + h.len) ≤ i.end
   ends = ends-within i _ _ e
@@ -95,7 +99,7 @@ module _ (i : Input) (h : Header) (e : read_of (held_of i) ≡ record { refusal 
   part-length : length part ≡ h.len
   part-length =
       let w = ends in
-      length-take-le (i.from + (6 + h.len) - (i.from + 6)) (drop (i.from + 6) i.block) (omega (arith, length-drop (i.from + 6) i.block, i.lies.1)) ∙ omega arith
+      length-take-le h.len (drop (i.from + 6) i.block) (omega (arith, length-drop (i.from + 6) i.block, i.lies.1))
 
   payload_is : part ≡ payload_of (held_of i)
   payload_is =
@@ -105,36 +109,39 @@ module _ (i : Input) (h : Header) (e : read_of (held_of i) ≡ record { refusal 
       let six : 6 + m ≡ i.end - i.from = omega (arith, w) in
       let behind : drop 6 s ≡ take m (drop (i.from + 6) i.block) =
       ap (λ (n : ℕ). drop 6 (take n (drop i.from i.block))) (sym six) ∙ drop-take 6 m (drop i.from i.block) ∙ ap (take m) (drop-drop 6 i.from i.block) in
-      let n : i.from + (6 + h.len) - (i.from + 6) ≡ length_in s = omega (arith, said) in
-      ap (λ (k : ℕ). take k (drop (i.from + 6) i.block)) n
+      ap (λ (k : ℕ). take k (drop (i.from + 6) i.block)) (sym said)
       ∙ sym (take-take (length_in s) m (drop (i.from + 6) i.block) (omega (arith, said, w)))
       ∙ ap (take (length_in s)) (sym behind)
       ∙ sym (payload-yes s ok)
 
-  rest_is : take (i.end - (i.from + (6 + h.len))) (drop (i.from + (6 + h.len)) i.block) ≡ drop (6 + h.len) (held_of i)
-  rest_is =
-      let n = 6 + h.len in
-      let w = ends in
-      let left : n + (i.end - (i.from + n)) ≡ i.end - i.from = omega (arith, w) in
-      ap (take (i.end - (i.from + n))) (sym (drop-drop n i.from i.block))
-      ∙ sym (drop-take n (i.end - (i.from + n)) (drop i.from i.block))
-      ∙ ap (λ (m : ℕ). drop n (take m (drop i.from i.block))) left
-
-  -- size is what the code has as the record's size, p the part of the block that it lends, and then the place behind
-  pub handed : (place size then : ℕ) (p : Bor (List ℕ)) {room : length i.block ≡ 36870} {lies : (i.from + size ≤ i.end) × (i.end ≤ length i.block)}
-      → i.place ≡ place → i.place < 2 ^ 64 → size ≡ 6 + h.len → p.now ≡ take (i.from + size - (i.from + 6)) (drop (i.from + 6) i.block) → then ≡ min (i.place + size) (2 ^ 64 - 1)
-      → Handed place (record { kind = h.kind; payload = p; place = i.place }) (record { block = i.block; from = i.from + size; end = i.end; place = then; ended = i.ended; room = room; lies = lies })
-  handed place size then p same small long lent behind =
-      let is : p.now ≡ part = lent ∙ ap (λ (n : ℕ). take (i.from + n - (i.from + 6)) (drop (i.from + 6) i.block)) long in
+  -- p is the part of the block that is lent: n bytes behind the header
+  pub handed : {place size at n : ℕ} {after : Input} (kind : Kind) (p : Bor (List ℕ)) → kind ≡ h.kind → i.place ≡ place → size ≡ 6 + h.len → Passed i size after
+      → p.now ≡ take n (drop at after.block) → at ≡ i.from + 6 → n ≡ h.len → Handed place (record { kind = kind; payload = p; place = i.place }) after
+  handed {place} {size} {at} {n} {after} kind p named same long passed lent begin much =
+      let is : p.now ≡ part = lent ∙ (λ k. take (much k) (drop (begin k) (passed.block k))) in
       let l : 6 + h.len ≡ 6 + length p.now = ap (λ (n : ℕ). 6 + n) (sym (ap length is ∙ part-length)) in
+      let bytes : bytes_at i.from after ≡ held_of i = λ k. take (passed.end k - i.from) (drop i.from (passed.block k)) in
       record {
-        held = held_of i;
-        whole = e ∙ ap (λ (n : ℕ). record { refusal = 0; kind = number_of h.kind; size = n }) l;
-        payload = is ∙ payload_is;
-        rest = ap (λ (n : ℕ). take (i.end - (i.from + n)) (drop (i.from + n) i.block)) long ∙ rest_is ∙ ap (λ (n : ℕ). drop n (held_of i)) l;
+        from = i.from;
+        whole = ap read_of bytes ∙ e ∙ (λ k. record { refusal = 0; kind = number_of (sym named k); size = l k });
+        payload = is ∙ payload_is ∙ ap payload_of (sym bytes);
+        rest = passed.from ∙ ap (λ (n : ℕ). i.from + n) (long ∙ l);
         begins = same;
-        goes_on = behind ∙ saturates i.place size small ∙ (λ k. place_after (same k) ((long ∙ l) k));
+        goes_on = passed.place ∙ (λ k. place_after (same k) ((long ∙ l) k));
       }
+
+-- what is held then is what follows the record
+pub held-behind : {place : ℕ} {r : Record} {after : Input} (h : Handed place r after) → held_of after ≡ drop (6 + length r.payload.now) (bytes_at h.from after)
+held-behind {place} {r} {after} h =
+    let n = 6 + length r.payload.now in
+    let left : n + (after.end - after.from) ≡ after.end - h.from = omega (arith, h.rest, after.lies.0) in
+    ap (λ (m : ℕ). take (after.end - after.from) (drop m after.block)) h.rest
+    ∙ ap (take (after.end - after.from)) (sym (drop-drop n h.from after.block))
+    ∙ sym (drop-take n (after.end - after.from) (drop h.from after.block))
+    ∙ ap (λ (m : ℕ). drop n (take m (drop h.from after.block))) left
 
 pub found-some : (place : ℕ) (i : Input) {o : Option Header} {h : Header} → o ≡ Some h → says.Found place (Ok o) i → says.Found place (Ok (Some h)) i
 found-some place i e f = subst (λ o. says.Found place (Ok o) i) e f
+
+pub found-none : (place : ℕ) (i : Input) {o : Option Header} → o ≡ None → says.Found place (Ok o) i → says.Ends place i
+found-none place i e f = subst (λ o. says.Found place (Ok o) i) e f

@@ -1,8 +1,11 @@
 -- What is held of the input, and what an answer says of it. Definitions only.
+--     bytes_at from i     the block's bytes from a place on, up to where what is held ends
 --     held_of i           the bytes held
 --     IsStart i           an input of which nothing is read
+--     Passed i n after    n of the bytes held are passed over, and nothing else changes
 --     Handed place r i    the record r, where what is held began at this place of the input, and what is then held
 --     Says place r i      any answer to who asks for a record
+--     SaysAtOnce place r  what of that is known while the record is held
 --     Found place r i     any answer to who asks whether there is one, which is still held
 --     Grew i r after      a read: what was held stands at the block's front, and there is more of it, unless the input has ended
 use Rattle.std.specs.Prelude.{◌≡◌, false, List, [], ℕ, suc, ◌+◌, ◌-◌, ◌<◌, length, take, drop, Result, Ok, Err, Option, None, Some}
@@ -19,19 +22,30 @@ use Rattle.record_input.specs.declared.reading.Record.{Record}
 use Rattle.record_input.specs.Front as fronts
 use Rattle.record_input.specs.Front.{front_of, place_after}
 
+abbrev pub bytes_at : ℕ → Input → List ℕ
+bytes_at from i = take (i.end - from) (drop from i.block)
+
 abbrev pub held_of : Input → List ℕ
-held_of i = take (i.end - i.from) (drop i.from i.block)
+held_of i = bytes_at i.from i
 
 -- nothing is read yet
 abbrev pub IsStart : Input → Type 0
 IsStart i = (held_of i ≡ []) × ((i.place ≡ 0) × (i.ended ≡ false))
 
--- it is what record reads at the front of the bytes that were held, and what follows it is held still
+-- what follows is held still, where it is
+pub record Passed (i : Input) (n : ℕ) (after : Input) : Type 0 where
+  pub block : after.block ≡ i.block
+  pub from : after.from ≡ i.from + n
+  pub end : after.end ≡ i.end
+  pub place : after.place ≡ place_after i.place n
+  pub ended : after.ended ≡ i.ended
+
+-- it is what record reads at this place of the block, and what is held then begins behind it
 pub record Handed (place : ℕ) (r : Record) (after : Input) : Type 0 where
-  pub held : List ℕ
-  pub whole : read_of held ≡ record { refusal = 0; kind = number_of r.kind; size = 6 + length r.payload.now }
-  pub payload : r.payload.now ≡ payload_of held
-  pub rest : held_of after ≡ drop (6 + length r.payload.now) held
+  pub from : ℕ
+  pub whole : read_of (bytes_at from after) ≡ record { refusal = 0; kind = number_of r.kind; size = 6 + length r.payload.now }
+  pub payload : r.payload.now ≡ payload_of (bytes_at from after)
+  pub rest : after.from ≡ from + (6 + length r.payload.now)
   pub begins : r.place ≡ place
   pub goes_on : after.place ≡ place_after place (6 + length r.payload.now)
 
@@ -46,6 +60,11 @@ abbrev pub Says : ℕ → Result (Option Record) RecordsError → Input → Type
 Says place (Ok (Some r)) i = Handed place r i
 Says place (Ok None) i = Ends place i
 Says place (Err e) i = Fails place e i
+
+-- what is known while the record is held: the answer says so of an Input, the one that is left then
+pub record SaysAtOnce (place : ℕ) (r : Result (Option Record) RecordsError) : Type 0 where
+  pub left : Input
+  pub says : Says place r left
 
 abbrev pub Found : ℕ → Result (Option Header) RecordsError → Input → Type 0
 Found place (Ok (Some h)) i = (i.place ≡ place) × (read_of (held_of i) ≡ record { refusal = 0; kind = number_of h.kind; size = 6 + h.len })

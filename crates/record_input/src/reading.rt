@@ -1,5 +1,5 @@
 // Reading.
-ghost use Rattle.std.specs.Prelude.{◌≡◌, ◌≤◌, length};
+ghost use Rattle.std.specs.Prelude.{◌≡◌, ◌+◌, ◌≤◌, length};
 
 use crate::error::RecordsError;
 use crate::front::{Front, at_front};
@@ -33,7 +33,7 @@ impl Input {
     ghost use Rattle.std.specs.Borrow.{sem};
     ghost use Rattle.std.specs.Io.BufRead.{Rests};
     ghost use Rattle.record_input.specs.contracts.reading.Input.{the_row};
-    ghost use Rattle.record_input.specs.Reading.{held_of, IsStart, Says, Found, Grew};
+    ghost use Rattle.record_input.specs.Reading.{held_of, IsStart, Says, SaysAtOnce, Found, Passed, Grew};
 
     // An input of which nothing is read.
     pub fn new() -> Input
@@ -54,6 +54,7 @@ impl Input {
         stdin: &mut R,
     ) -> Result<Option<Record<'_>>, RecordsError>
         ensures* says { sem 𝓛 (Rests the_row self.entry (λ new. Says self.old.place result new)) }
+        ensures at_once { SaysAtOnce self.old.place result }
     {
         let Some(header) = self.find(stdin)? else {
             return Ok(None);
@@ -62,13 +63,24 @@ impl Input {
         let size = header.size();
         let end = self.from + size;
         let place = self.place;
-        self.from = end;
-        self.place = place.saturating_add(size as u64);
+        self.pass(size);
         Ok(Some(Record {
             kind: header.kind,
             payload: self.part(from, end),
             place,
         }))
+    }
+
+    // Goes behind a record of so many bytes, at the front of what is held.
+    #[tactic(auto, using(laws::specs::Choice::choices, crate::proofs::Turns::saturates), unfolding(crate::specs::Front::place_after))]
+    fn pass(&mut self, size: usize)
+        requires { self.old.from + size ≤ self.old.end }
+        ensures { Passed self.old size self.new }
+    {
+        let end = self.from + size;
+        let place = self.place;
+        self.from = end;
+        self.place = place.saturating_add(size as u64);
     }
 
     // Reads until a whole record is at the front of what is held, or none follows.
