@@ -4,7 +4,7 @@ use tau::Answer;
 use tau_state::state::TauCanceller;
 
 // TauCanceller with four partitions and suppression, and the four buffers that each of its calls is lent.
-#[derive(Drop)]
+#[derive(Clone, Copy)]
 pub struct Engine {
     pub state: TauCanceller,
     pub shadow: [f64; 2056],
@@ -19,6 +19,8 @@ impl Model for Engine {
     ghost Value = { Engine };
 
     ghost view = { λ e. record { state = e.state; shadow = e.shadow; output = e.output; spectra = e.spectra; powers = e.powers } };
+
+    ghost inverse = { λ e. record { state = e.state; shadow = e.shadow; output = e.output; spectra = e.spectra; powers = e.powers } };
 }
 
 impl Engine {

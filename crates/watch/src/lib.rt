@@ -15,11 +15,11 @@ use std::marker::Model;
 use tau_state::report::Last;
 
 // The engine, where the run is, and how many blocks had each reason, and overs. At most 255 pairs wait for their block.
-#[derive(Drop)]
+#[derive(Clone, Copy)]
 pub struct Watch {
-    engine: Engine,
-    course: Course,
-    counts: [u64; 11],
+    pub engine: Engine,
+    pub course: Course,
+    pub counts: [u64; 11],
 }
 
 impl Model for Watch {
@@ -29,6 +29,8 @@ impl Model for Watch {
     ghost Value = { Watched };
 
     ghost view = { λ w. record { engine = w.engine; course = w.course; counts = w.counts } };
+
+    ghost inverse = { λ w. record { engine = w.engine; course = w.course; counts = w.counts } };
 
     ghost invariant = { λ w. w.engine.state.carried ≤ 255 };
 }
@@ -56,7 +58,9 @@ impl Watch {
         streams: &mut Streams<R, W, E>,
         bytes: &[u8],
     ) -> Result<(), ProgramError>
-        ensures { OnOk result (self.new ≡ pieces_of (length bytes.now) self.old bytes.now) }
+        ensures watched { OnOk result (self.new ≡ pieces_of (length bytes.now) self.old bytes.now) }
+        ensures input_stays { streams.new.input ≡ streams.old.input }
+        ensures errors_stay { streams.new.errors ≡ streams.old.errors }
     {
         let mut rest = bytes;
         while rest.len() > 0 {
@@ -82,7 +86,9 @@ impl Watch {
         streams: &mut Streams<R, W, E>,
         piece: &[u8],
     ) -> Result<(), ProgramError>
-        ensures { self.new ≡ fed_by self.old piece.now }
+        ensures fed { self.new ≡ fed_by self.old piece.now }
+        ensures input_stays { streams.new.input ≡ streams.old.input }
+        ensures errors_stay { streams.new.errors ≡ streams.old.errors }
     {
         let mut unused = [0u8; 16384];
         let answer = self.engine.feed(piece, &mut unused);
@@ -94,7 +100,9 @@ impl Watch {
         &mut self,
         streams: &mut Streams<R, W, E>,
     ) -> Result<(), ProgramError>
-        ensures { self.new ≡ flushed_by self.old }
+        ensures flushed { self.new ≡ flushed_by self.old }
+        ensures input_stays { streams.new.input ≡ streams.old.input }
+        ensures errors_stay { streams.new.errors ≡ streams.old.errors }
     {
         let mut unused = [0u8; 1024];
         let answer = self.engine.finish(&mut unused);
@@ -110,6 +118,8 @@ impl Watch {
         ensures engine { self.new.engine ≡ self.old.engine }
         ensures course { self.new.course ≡ course_after self.old.course last }
         ensures counts { self.new.counts ≡ counts_after last self.old.counts }
+        ensures input_stays { streams.new.input ≡ streams.old.input }
+        ensures errors_stay { streams.new.errors ≡ streams.old.errors }
     {
         let noted = note(self.course, last, &mut self.counts);
         self.course = noted.course;
@@ -123,6 +133,8 @@ impl Watch {
     ) -> Result<(), ProgramError>
         ensures reset { record { engine = self.new.engine; course = self.new.course } ≡ reset_by self.old.engine self.old.course }
         ensures counts { self.new.counts ≡ self.old.counts }
+        ensures input_stays { streams.new.input ≡ streams.old.input }
+        ensures errors_stay { streams.new.errors ≡ streams.old.errors }
     {
         let lines = reset_lines(self.course);
         self.engine.reset();
@@ -134,7 +146,10 @@ impl Watch {
     pub fn finish<R: Read, W: Write, E: Write>(
         &self,
         streams: &mut Streams<R, W, E>,
-    ) -> Result<(), ProgramError> {
+    ) -> Result<(), ProgramError>
+        ensures input_stays { streams.new.input ≡ streams.old.input }
+        ensures errors_stay { streams.new.errors ≡ streams.old.errors }
+    {
         streams.write_all(stretch_line(self.course).as_str().as_bytes())?;
         let counted = summary(self.course.blocks, &self.counts);
         streams.write_all(counted.as_str().as_bytes())

@@ -5,6 +5,7 @@
 // is told of.
 #![tactic(auto)]
 
+ghost use Rattle.std.specs.Prelude.{◌≡◌};
 ghost use Rattle.std.specs.Result.{is_ok};
 ghost use Rattle.record.specs.Kind.{number_of};
 ghost use Rattle.why_records.specs.Called.{Called};
@@ -56,7 +57,9 @@ fn call<R: Read, W: Write, E: Write>(
     kind: Kind,
     payload: &[u8],
 ) -> Result<(), ProgramError>
-    ensures { Called (number_of kind) payload.now watch.old (is_ok result) watch.new }
+    ensures called { Called (number_of kind) payload.now watch.old (is_ok result) watch.new }
+    ensures input_stays { streams.new.input ≡ streams.old.input }
+    ensures errors_stay { streams.new.errors ≡ streams.old.errors }
 {
     match kind {
         Kind::Pairs => watch.pairs(streams, payload),
