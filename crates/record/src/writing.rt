@@ -1,5 +1,5 @@
 // Writing: a record to the front of a buffer. What lies behind it stays.
-ghost use Rattle.std.specs.Prelude.{◌≡◌};
+ghost use Rattle.std.specs.Prelude.{◌≡◌, length};
 ghost use Rattle.record.specs.Kind.{number_of};
 ghost use Rattle.record.specs.Answers.{written_of};
 ghost use Rattle.record.specs.Promises as promises;
@@ -41,6 +41,16 @@ pub fn write(kind: u32, payload: &[u8], out: &mut [u8]) -> Result<usize, Refusal
     write_record(Kind::try_from(kind)?, payload, out)
 }
 
+// A loop: for std's copy_from_slice the host library would need C's memmove.
+fn put(bytes: &[u8], out: &mut [u8])
+    requires { length bytes.now ≡ length out.old }
+    ensures { out.new ≡ bytes.now }
+{
+    for k in 0..bytes.len() {
+        out[k] = bytes[k];
+    }
+}
+
 #[tactic(auto, using(laws::specs::Choice::choices), unfolding(crate::specs::Writing::write_of, crate::specs::Writing::write_refusal))]
 pub fn write_record(kind: Kind, payload: &[u8], out: &mut [u8]) -> Result<usize, Refusal>
     ensures { promises.Write (number_of kind) payload.now out.old (written_of result) out.new }
@@ -51,6 +61,6 @@ pub fn write_record(kind: Kind, payload: &[u8], out: &mut [u8]) -> Result<usize,
         return Err(Refusal::NoRoom);
     }
     out[..6].copy_from_slice(&header.to_bytes());
-    out[6..size].copy_from_slice(payload);
+    put(payload, &mut out[6..size]);
     Ok(size)
 }

@@ -9,6 +9,16 @@ pub fn clear(d: &mut [f64])
     d.fill(0.0);
 }
 
+// The other filter's weights. A loop: for std's copy_from_slice the host library would need C's memmove.
+pub fn copy(weights: &mut [f64], others: &[f64])
+    requires { length others.now ≡ length weights.old }
+    ensures { weights.new ≡ others.now }
+{
+    for k in 0..weights.len() {
+        weights[k] = others[k];
+    }
+}
+
 pub fn halve(weights: &mut [f64])
     ensures { weights.new ≡ halved weights.old }
 {

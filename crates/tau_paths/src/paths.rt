@@ -4,7 +4,7 @@ ghost use Rattle.laws.specs.Choice.{pick};
 ghost use Rattle.laws.specs.Counting.{one_more32};
 ghost use Rattle.tau_paths.specs.Paths.{weighed, leak_of, reason_of, acted, runs, weighed_if, compared};
 
-use tau_clears::weights::leak_to;
+use tau_clears::weights::{copy, leak_to};
 use tau_state::report::{Outcome, Reason, outcome_of};
 use tau_state::state::Paths;
 use tau_state::sums::{energy, one_more, one_more_32, smooth};
@@ -114,7 +114,7 @@ fn act(
 {
     match outcome_of(reason) {
         Outcome::Rescue => {
-            shadow.copy_from_slice(output);
+            copy(shadow, output);
             paths.shadow_error_power = paths.output_error_power;
             paths.rescue_streak = 0;
             true

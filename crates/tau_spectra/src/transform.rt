@@ -13,11 +13,14 @@ pub struct Transform {
     ghost is_table: { table ≡ recombination },
 }
 
+// A constant, so that the scratch is cleared where it stays: an array written there would be made beside it first, and copied.
+const SCRATCH: [f64; 1024] = [0.0; 1024];
+
 impl Transform {
     pub fn new() -> Transform {
         Transform {
             table: trig::recombination(),
-            scratch: [0.0f64; 1024],
+            scratch: SCRATCH,
         }
     }
 

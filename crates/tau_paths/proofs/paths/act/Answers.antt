@@ -4,7 +4,7 @@ use Rattle.tau_paths.proofs.paths.act.Goals as goal
 
 pub returns-in-Rescue : goal.returns-in-Rescue
 unfolding acted settled counted shadow_after output_after is_rescue
-returns-in-Rescue c = rw (← c.in-Rescue.ensures, c.copy_from_slice.ensures.after)
+returns-in-Rescue c = rw (← c.in-Rescue.ensures, c.copy.ensures)
 
 pub returns-in-Move : goal.returns-in-Move
 unfolding acted settled counted shadow_after output_after is_rescue

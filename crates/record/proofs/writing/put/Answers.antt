@@ -1,0 +1,14 @@
+use Rattle.std.proofs.Common.{rules, refl, ◌∙◌}
+use lib.ListN.{length-set}
+use Rattle.laws.specs.Loops.{loops, over-next, over-whole}
+use Rattle.laws.specs.Readings.{over-copy}
+use Rattle.record.proofs.writing.put.Goals as goal
+
+pub loop-k-init : goal.loop-k-init
+loop-k-init c = search (rules, loops)
+
+pub loop-k-preserved : goal.loop-k-preserved
+loop-k-preserved c = (simp length-set c.loop-k.invariant.0, over-next 0 _ _ _ c.loop-k.invariant.1 refl)
+
+pub returns : goal.returns
+returns c = over-whole _ _ _ c.loop-k.invariant.1 (search rules) ∙ over-copy 0 c.args.bytes.now c.args.out.now (search rules)
