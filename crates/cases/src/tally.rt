@@ -1,6 +1,8 @@
 // The count of cases, and what is said of those that differ.
 ghost use Rattle.std.specs.Prelude.{◌≡◌};
 
+use arrayvec::ArrayString;
+use std::fmt::Write as _;
 use std::io::Write;
 
 // So many lines that differ, and so many that are no cases, are told of one by one.
@@ -31,10 +33,12 @@ impl Tally {
         }
         if self.differ < TOLD {
             let line = self.lines;
+            let mut text = ArrayString::new();
             let _ = writeln!(
-                output,
+                text,
                 "line {line}: got {got:016x}, the list has {want:016x}"
             );
+            tell(output, &text);
         }
         self.differ = self.differ.saturating_add(1);
     }
@@ -47,7 +51,9 @@ impl Tally {
         self.lines = self.lines.saturating_add(1);
         if self.refused < TOLD {
             let line = self.lines;
-            let _ = writeln!(output, "line {line}: no case");
+            let mut text = ArrayString::new();
+            let _ = writeln!(text, "line {line}: no case");
+            tell(output, &text);
         }
         self.refused = self.refused.saturating_add(1);
     }
@@ -59,15 +65,24 @@ impl Tally {
         let cases = self.cases;
         let differ = self.differ;
         if 0 < refused {
-            let _ = writeln!(output, "malformed lines: {refused}");
+            let mut text = ArrayString::new();
+            let _ = writeln!(text, "malformed lines: {refused}");
+            tell(output, &text);
         }
         if 0 < left {
-            let _ = writeln!(output, "cut short: the last line is not whole");
+            pipe::write_all(output, b"cut short: the last line is not whole\n");
         }
+        let mut counts = ArrayString::<64>::new();
         let _ = if cases == 0 {
-            writeln!(output, "{program}: no cases")
+            write!(counts, "no cases")
         } else {
-            writeln!(output, "{program}: {cases} cases, {differ} differ")
+            write!(counts, "{cases} cases, {differ} differ")
         };
+        pipe::say_why(output, program, &counts);
     }
+}
+
+// A line in one write, so that none goes out in parts. The longest, of two words in hex, has 79 bytes.
+fn tell<W: Write>(output: &mut W, line: &ArrayString<80>) {
+    pipe::write_all(output, line.as_str().as_bytes());
 }
