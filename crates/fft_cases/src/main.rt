@@ -52,12 +52,15 @@ fn answered(case: &Case<12>) -> Option<[u64; 4]> {
                 trig::det_sin(angle).to_word(),
             ])
         }
-        b't' => {
-            let (first, second) = pair(&trig::recombination(), case.fields[7])?;
-            Some([0, 0, first, second])
-        }
+        b't' => entry(case.fields[7]),
         _ => transformed(case),
     }
+}
+
+// The table's. A function of its own, since a line of another letter would pay for the table too.
+fn entry(place: u64) -> Option<[u64; 4]> {
+    let (first, second) = pair(&trig::recombination(), place)?;
+    Some([0, 0, first, second])
 }
 
 // The numbers at a place and the next.
@@ -71,12 +74,13 @@ fn pair(numbers: &[f64], at: u64) -> Option<(u64, u64)> {
 fn transformed(case: &Case<12>) -> Option<[u64; 4]> {
     let given = case.fields[5] as usize;
     let room = case.fields[6] as usize;
-    if 1024 < given || 1024 < room {
+    let place = case.fields[7];
+    if 1024 < given || 1024 < room || 1023 <= place {
         return None;
     }
     let mut buffer = [0.0; 1024];
     make(case, &mut buffer);
     let number = run(case.letter, &mut buffer, given, room)?;
-    let (first, second) = pair(&buffer, case.fields[7])?;
+    let (first, second) = pair(&buffer, place)?;
     Some([number, hash(&buffer[..room]), first, second])
 }
