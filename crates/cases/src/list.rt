@@ -1,5 +1,6 @@
 // The run of a program that replays a list: its lines come in blocks, so that a list takes few calls of the system.
-ghost use Rattle.std.specs.Prelude.{◌≡◌, ◌+◌, ◌*◌, ◌/◌, ◌^◌, ◌<◌, ◌↔◌, ◌==◌, if◌then◌else◌, ◌≤◌, length};
+ghost use Rattle.std.specs.Prelude.{◌≡◌, ◌+◌, ◌*◌, ◌/◌, ◌^◌, ◌<◌, ◌↔◌, ◌==◌, if◌then◌else◌, ◌≤◌, length, nat_eq, not, option_map, unwrap_or};
+ghost use Rattle.std.specs.List.{find, zip};
 
 use crate::case::Case;
 use crate::tally::Tally;
@@ -16,7 +17,8 @@ impl Compared {
     /// Of numbers side by side the first two that differ, or two zeros where none do.
     pub fn first(got: &[u64], want: &[u64]) -> Compared
         requires { length got.now ≡ length want.now }
-        ensures { (result.got ≡ result.want) ↔ (got.now ≡ want.now) }
+        ensures same { (result.got ≡ result.want) ↔ (got.now ≡ want.now) }
+        ensures which { result ≡ unwrap_or (option_map (λ p. record { got = p.0; want = p.1 }) (find (λ p. not (nat_eq p.0 p.1)) (zip got.now want.now))) (record { got = 0; want = 0 }) }
     {
         got.iter().zip(want).find(|(got, want)| got != want).map_or(
             Compared { got: 0, want: 0 },
