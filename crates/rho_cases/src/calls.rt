@@ -114,16 +114,21 @@ fn processed(
     history: &mut [f32],
 ) -> Option<Got> {
     let (near_len, far_len) = halves(case.fields[7]);
+    let near_len = near_len as usize;
+    let far_len = far_len as usize;
     let room = case.fields[8] as usize;
+    if SAMPLES < near_len || SAMPLES < far_len || SAMPLES < room {
+        return None;
+    }
     let mut near = [0.0f32; SAMPLES];
     let mut far = [0.0f32; SAMPLES];
     let mut out = [0.0f32; SAMPLES];
     near_recipe(case).fill(&mut near);
     far_recipe(case).fill(&mut far);
-    BEFORE.fill(&mut out);
-    let near = near.get(..near_len as usize)?;
-    let far = far.get(..far_len as usize)?;
-    let out = out.get_mut(..room)?;
+    let near = &near[..near_len];
+    let far = &far[..far_len];
+    let out = &mut out[..room];
+    BEFORE.fill(out);
     let delivered = rho::process(state, weights, history, near, far, out);
     let output = Output {
         hash: hash(out),
