@@ -1,4 +1,3 @@
 pub mod Bounds
 pub mod Count
 pub mod Fields
-pub mod Form

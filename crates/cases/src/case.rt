@@ -53,13 +53,15 @@ fn field(line: &[u8], n: usize) -> u64
     value
 }
 
-// Whether a line has the form of a case.
+// Whether a line has the form of a case. To its end, whatever does not fit: an end before it keeps the bytes from being tried many at once.
 fn is_case(line: &[u8]) -> bool
     ensures { result ≡ is_case line.now }
 {
-    line.iter()
-        .enumerate()
-        .all(|(k, b)| fits_at(line.len(), k, *b))
+    let mut fits = true;
+    for k in 0..line.len() {
+        fits &= fits_at(line.len(), k, line[k]);
+    }
+    fits
 }
 
 // Whether the byte b may stand at place k of a line of `size` bytes. A field takes 17, the blank before it

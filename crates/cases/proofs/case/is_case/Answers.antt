@@ -1,11 +1,17 @@
--- `cases::is_case` meets its contract: `all` tries each byte at its place.
-use Rattle.std.proofs.Common.{rules, ◌≡◌, true, false, length}
-use Rattle.std.proofs.lemmas.Iterator.{cases_from_all}
-use Rattle.std.proofs.lemmas.Iterator.Consumers.{YieldsList-from_enumerate}
-use Rattle.std.proofs.lemmas.Iterator.{YieldsList-from_slice}
-use Rattle.cases.specs.Line.{fits_at}
-use Rattle.cases.proofs.Form.{is_case_from_all}
+-- `cases::is_case` meets its contract: after k bytes the flag says whether these fit. Assumes nothing.
+use Rattle.std.proofs.Common.{rules}
+use Rattle.laws.specs.Loops.{loops, iter-more}
+use Rattle.cases.specs.Line.{is_case}
 use Rattle.cases.proofs.case.is_case.Goals as goal
 
+pub loop-k-init : goal.loop-k-init
+unfolding is_case
+loop-k-init c = search (rules, loops)
+
+pub loop-k-preserved : goal.loop-k-preserved
+unfolding is_case
+loop-k-preserved c = rw iter-more (cc)
+
 pub returns : goal.returns
-returns c = is_case_from_all _ _ (cases_from_all _ _ _ (λ p. fits_at (length c.args.line.now) p.0 p.1 ≡ true) (λ p. fits_at (length c.args.line.now) p.0 p.1 ≡ false) c.all.ensures.ran (YieldsList-from_enumerate (YieldsList-from_slice c.args.line.now cc) cc) (λ x q k. search rules) (λ x q k. search rules))
+unfolding is_case
+returns c = search (rules, loops)
