@@ -61,8 +61,12 @@ fn main(rt: HostRuntime) {
 
 // What the reader answers, or nothing where no function has the letter, or there are too many bytes.
 fn read(case: &Case<6>) -> Option<u64> {
+    let count = case.fields[1] as usize;
+    if 65536 < count {
+        return None;
+    }
     let mut bytes = [0u8; 65536];
-    let bytes = bytes.get_mut(..case.fields[1] as usize)?;
+    let bytes = &mut bytes[..count];
     make_bytes(case, bytes);
     let got = record::read(bytes);
     let answer = match case.letter {
@@ -78,12 +82,17 @@ fn read(case: &Case<6>) -> Option<u64> {
 // The same of the writer. The buffer is longer than what is lent, and all of it is hashed: what should not be written would show.
 fn written(case: &Case<6>) -> Option<u64> {
     let (_, kind) = halves(case.fields[0]);
+    let count = case.fields[1] as usize;
+    let room = case.fields[4] as usize;
+    if 4112 < count || 4112 < room {
+        return None;
+    }
     let mut payload = [0u8; 4112];
     let mut buffer = [0u8; 4112];
-    let payload = payload.get_mut(..case.fields[1] as usize)?;
+    let payload = &mut payload[..count];
     make_payload(case, payload);
     BEFORE.fill(&mut buffer);
-    let got = record::write(kind, payload, buffer.get_mut(..case.fields[4] as usize)?);
+    let got = record::write(kind, payload, &mut buffer[..room]);
     let answer = match case.letter {
         b'R' => u64::from(refusal::number(&got)),
         b'W' => got.unwrap_or(0) as u64,
