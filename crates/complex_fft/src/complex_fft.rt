@@ -136,7 +136,9 @@ fn run(s: &mut [f64; 512], table: &[f64; 514], reversal: &[u8; 256], inverse: bo
     }
 }
 
-// 256 points, real part then imaginary, in place. Refused, with nothing written, where there are not 512 numbers.
+// 256 points, real part then imaginary, in place. Refused, with nothing written, where there are not 512 numbers. Inlined, so that either
+// way has a loop of its own, in which the compiler knows the way.
+#[inline(always)]
 #[tactic(auto, using(laws::specs::Choice::choices), unfolding(crate::specs::Calls::complex_of, laws::specs::Choice::pick))]
 fn transform(points: &mut [f64], inverse: bool) -> Result<(), Refusal>
     ensures { record { answer = number_in result; out = points.new } ≡ complex_of inverse points.old }
