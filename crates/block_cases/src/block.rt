@@ -1,6 +1,4 @@
 // A block of a step: what is heard in it, and what comes of it.
-ghost use Rattle.std.specs.Prelude.{◌≤◌};
-
 use cases::{Bits, Recipe, halves, hash};
 use tau_lines::{Fields, echo};
 use tau_state::report::{Told, leak_of, outcome_of};
@@ -15,9 +13,8 @@ pub struct Sounds {
 }
 
 /// Near and far are noise. Near then has an echo, of so many samples as there are; the others are 0.0 in both.
-pub fn heard(fields: &Fields, near_seed: u64, far_seed: u64, valid: usize) -> Sounds
-    requires { valid ≤ 256 }
-{
+pub fn heard(fields: &Fields, near_seed: u64, far_seed: u64, valid: usize) -> Sounds {
+    let valid = valid.min(256);
     let mut near = [0.0f32; 256];
     let mut far = [0.0f32; 256];
     Recipe::of_halves([near_seed, fields[1], fields[2]]).fill(&mut near);
