@@ -148,16 +148,27 @@ pub fn process_unreported(
         far.len(),
         out.len(),
     );
-    let mut state = s;
-    let framed = process_in_place(
-        refusal, &mut state, shadow, output, spectra, powers, near, far, out,
-    );
-    Unreported {
+    // The state goes on in the answer: beside it, a call would take 3 KB more of the host's stack.
+    let mut answer = Unreported {
         refusal,
-        delivered: framed.delivered,
-        state,
-        last: framed.last,
-    }
+        delivered: 0,
+        state: s,
+        last: Last::NoneRan,
+    };
+    let framed = process_in_place(
+        refusal,
+        &mut answer.state,
+        shadow,
+        output,
+        spectra,
+        powers,
+        near,
+        far,
+        out,
+    );
+    answer.delivered = framed.delivered;
+    answer.last = framed.last;
+    answer
 }
 
 pub fn process(
@@ -213,14 +224,24 @@ pub fn flush_unreported(
         powers.len(),
         out.len(),
     );
-    let mut state = s;
-    let framed = flush_in_place(refusal, &mut state, shadow, output, spectra, powers, out);
-    Unreported {
+    let mut answer = Unreported {
         refusal,
-        delivered: framed.delivered,
-        state,
-        last: framed.last,
-    }
+        delivered: 0,
+        state: s,
+        last: Last::NoneRan,
+    };
+    let framed = flush_in_place(
+        refusal,
+        &mut answer.state,
+        shadow,
+        output,
+        spectra,
+        powers,
+        out,
+    );
+    answer.delivered = framed.delivered;
+    answer.last = framed.last;
+    answer
 }
 
 pub fn flush(
