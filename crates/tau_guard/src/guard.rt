@@ -27,12 +27,14 @@ pub(crate) fn tripped(g: Guard) -> bool
     heard & above
 }
 
-// The near block in the valid places.
+// The near block in the valid places. A loop: for std's copy_from_slice the host library would need C's memmove.
 pub(crate) fn replace(near: &[f32; 256], valid: usize, block: &mut [f32; 256])
     requires { valid ≤ 256 }
     ensures { block.new ≡ replaced near.now valid block.old }
 {
-    block[..valid].copy_from_slice(&near[..valid]);
+    for i in 0..valid {
+        block[i] = near[i];
+    }
 }
 
 pub fn guard(

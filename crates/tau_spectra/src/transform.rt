@@ -13,14 +13,20 @@ pub struct Transform {
     ghost is_table: { table ≡ recombination },
 }
 
-// A constant, so that the scratch is cleared where it stays: an array written there would be made beside it first, and copied.
-const SCRATCH: [f64; 1024] = [0.0; 1024];
+// A call of its own: where the compiler writes the table number by number in between, it makes the scratch beside its place and copies it,
+// which takes 8 KB more of a host's stack.
+#[inline(never)]
+fn table() -> [f64; 514]
+    ensures { result ≡ recombination }
+{
+    trig::recombination()
+}
 
 impl Transform {
     pub fn new() -> Transform {
         Transform {
-            table: trig::recombination(),
-            scratch: SCRATCH,
+            table: table(),
+            scratch: [0.0f64; 1024],
         }
     }
 

@@ -1,9 +1,16 @@
 use Rattle.std.proofs.Common.{rules}
-use Rattle.std.specs.Float.{nan}
-use Rattle.laws.specs.Readings.{over-copied}
+use Rattle.laws.specs.Loops.{loops}
 use Rattle.tau_guard.specs.Guard.{replaced}
 use Rattle.tau_guard.proofs.guard.replace.Goals as goal
 
+pub loop-i-init : goal.loop-i-init
+unfolding replaced
+loop-i-init c = search (rules, loops)
+
+pub loop-i-preserved : goal.loop-i-preserved
+unfolding replaced
+loop-i-preserved c = search (rules, loops)
+
 pub returns : goal.returns
 unfolding replaced
-returns c = rw (over-copied nan c.args.valid c.args.near.now c.args.block.now (search rules) (search rules)) (rw c.copy_from_slice.ensures.after)
+returns c = search (rules, loops)
