@@ -1,24 +1,22 @@
 // The line of a stretch: which blocks, why, and how many samples went over in each.
 ghost use Rattle.std.specs.Prelude.{◌≡◌, ◌+◌, ◌≤◌, [], length};
 ghost use Rattle.arrayvec.specs.ArrayString.{array_string_len};
-ghost use Rattle.reasons.specs.Course.{number_of, leak_told};
 ghost use Rattle.reasons.specs.Line.{Blocks, Why, Overs, Line};
 
 use crate::leak::push_leak;
 use crate::words::words;
 use arrayvec::ArrayString;
-use tau_state::report::{Told, leak_of, outcome_of, reason_number};
 use text::decimal;
 
 // The blocks from `first` up to `last`. Two numbers, a reason with its leak, a count, and what stands between are 143 bytes at most.
-pub fn line_of(first: u64, last: u64, told: Told) -> ArrayString<143>
-    ensures { Line first last (number_of told) (leak_told told) told.overs result.bytes }
+pub fn line_of(first: u64, last: u64, number: u32, leak: f64, overs: u32) -> ArrayString<143>
+    ensures { Line first last number leak overs result.bytes }
 {
     let mut line = ArrayString::new();
     push_blocks(&mut line, first, last);
     line.push_str(": ");
-    push_why(&mut line, told);
-    push_overs(&mut line, told.overs);
+    push_why(&mut line, number, leak);
+    push_overs(&mut line, overs);
     line.push_str("\n");
     line
 }
@@ -40,18 +38,17 @@ fn push_blocks(line: &mut ArrayString<143>, first: u64, last: u64)
 }
 
 // A move has its leak behind the word.
-fn push_why(line: &mut ArrayString<143>, told: Told)
+fn push_why(line: &mut ArrayString<143>, number: u32, leak: f64)
     requires { array_string_len line.old + 60 ≤ 143 }
     ensures upper_bound { array_string_len line.new ≤ array_string_len line.old + 60 }
-    ensures why { Why (number_of told) (leak_told told) line.old.bytes line.new.bytes }
+    ensures why { Why number leak line.old.bytes line.new.bytes }
 {
-    let number = reason_number(told.reason);
     line.push_str(words(number));
     if number != 9 {
         return;
     }
     line.push_str(", leak ");
-    push_leak(line, leak_of(outcome_of(told.reason)));
+    push_leak(line, leak);
 }
 
 // Nothing where no sample went over.

@@ -5,7 +5,7 @@ ghost use Rattle.reasons.specs.Note.{Stretch, Ended, Ends, Reset, course_after, 
 
 use crate::course::Course;
 use crate::lines::line_of;
-use crate::tally::count_block;
+use crate::tally::count_told;
 use arrayvec::ArrayString;
 use tau_state::report::{Last, Told, overs_of, reason_number, reason_of};
 
@@ -33,7 +33,7 @@ pub fn note(course: Course, last: Last, counts: &mut [u64; 11]) -> Noted
             course,
         };
     }
-    count_block(told, counts);
+    count_told(told, counts);
     Noted {
         line: ended_line(course, told),
         course: course.after(told),
@@ -57,7 +57,13 @@ pub fn stretch_line(course: Course) -> ArrayString<143>
     if course.blocks <= course.first {
         return ArrayString::new();
     }
-    line_of(course.first, course.blocks - 1, course.told)
+    line_of(
+        course.first,
+        course.blocks - 1,
+        course.number,
+        course.leak,
+        course.overs,
+    )
 }
 
 // A reset ends the stretch, and has a line of its own.

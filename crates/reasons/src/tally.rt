@@ -11,19 +11,29 @@ use tau_state::sums::one_more;
 use text::decimal;
 
 // A block that tells this.
-#[tactic(auto, using(crate::proofs::Reasons::most), unfolding(crate::specs::Tally::block_counted, laws::specs::Choice::pick))]
-pub fn count_block(told: Told, counts: &mut [u64; 11])
+#[tactic(auto, using(crate::proofs::Reasons::most))]
+pub fn count_told(told: Told, counts: &mut [u64; 11])
     ensures { counts.new ≡ block_counted (number_of told) told.overs counts.old }
 {
-    count(reason_number(told.reason) as usize, counts);
-    if told.overs == 0 {
+    count_block(reason_number(told.reason), told.overs, counts);
+}
+
+// A block whose reason has this number, or 10, which none has, and so many overs.
+#[tactic(auto, unfolding(crate::specs::Tally::block_counted, laws::specs::Choice::pick))]
+pub fn count_block(number: u32, overs: u32, counts: &mut [u64])
+    requires number_in_bounds { number < length counts.old }
+    requires counts_len { length counts.old ≡ 11 }
+    ensures { counts.new ≡ block_counted number overs counts.old }
+{
+    count(number as usize, counts);
+    if overs == 0 {
         return;
     }
     count(10, counts);
 }
 
-fn count(number: usize, counts: &mut [u64; 11])
-    requires { number < 11 }
+fn count(number: usize, counts: &mut [u64])
+    requires { number < length counts.old }
     ensures { counts.new ≡ counted_of number counts.old }
 {
     counts[number] = one_more(counts[number]);
