@@ -13,19 +13,10 @@ pub struct Transform {
     ghost is_table: { table ≡ recombination },
 }
 
-// A call of its own: where the compiler writes the table number by number in between, it makes the scratch beside its place and copies it,
-// which takes 8 KB more of a host's stack.
-#[inline(never)]
-fn table() -> [f64; 514]
-    ensures { result ≡ recombination }
-{
-    trig::recombination()
-}
-
 impl Transform {
     pub fn new() -> Transform {
         Transform {
-            table: table(),
+            table: trig::recombination(),
             scratch: [0.0f64; 1024],
         }
     }

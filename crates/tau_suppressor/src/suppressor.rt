@@ -111,7 +111,9 @@ pub(crate) fn shape(g: &[f64; 257], s: &mut [f64])
     }
 }
 
-// How many samples of its inverse went over, 0 where it does not run.
+// How many samples of its inverse went over, 0 where it does not run. A call of its own, so that its arrays take no stack while another step
+// runs.
+#[inline(never)]
 pub fn suppress(
     transform: &mut Transform,
     on: bool,

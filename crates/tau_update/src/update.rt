@@ -69,6 +69,7 @@ fn gradient(x: &[f64], e: &[f64; 514], rates: &[f64; 257], g: &mut [f64])
 }
 
 // The lags beyond one block are the wrap-around and no taps: they are zeroed. How many of all lags went over.
+#[inline(never)]
 fn constrain(transform: &mut Transform, g: &mut [f64; 514]) -> u32
     ensures g_after { g.new ≡ constrained g.old }
     ensures overs { result ≡ overs_of g.old }
@@ -135,6 +136,7 @@ fn learn(
 }
 
 // The error behind 256 zeros.
+#[inline(never)]
 fn error_spectrum(transform: &mut Transform, error: &[f32; 256], bins: &mut [f64; 514])
     ensures { bins.new ≡ spectrum_of (framed error.now) }
 {
@@ -143,7 +145,9 @@ fn error_spectrum(transform: &mut Transform, error: &[f32; 256], bins: &mut [f64
     transform.spectrum(&framed, bins);
 }
 
-// How many lags of all partitions went over, 0 where the shadow is not updated.
+// How many lags of all partitions went over, 0 where the shadow is not updated. A call of its own, so that its arrays take no stack while
+// another step runs; and so are the two above that have an array each.
+#[inline(never)]
 pub fn adapt_shadow(
     transform: &mut Transform,
     on: bool,
