@@ -39,7 +39,8 @@ pub struct Estimates {
 // Steps 2 and 3.
 #[tactic(auto, unfolding(crate::specs::Groups::filtered))]
 fn filter(
-    transform: &mut Transform,
+    transform: &Transform,
+    scratch: &mut [f64; 1024],
     played: &Played,
     given: &MicBlock,
     mic: &mut Mic,
@@ -56,6 +57,7 @@ fn filter(
     BothChecked {
         shadow: shadow_estimate(
             transform,
+            scratch,
             &played.ring,
             given.near,
             &mut mic.paths,
@@ -67,6 +69,7 @@ fn filter(
         ),
         output: output_estimate(
             transform,
+            scratch,
             &played.ring,
             given.near,
             &mut mic.paths,
@@ -128,7 +131,8 @@ fn judge(
 
 // Step 6.
 fn update(
-    transform: &mut Transform,
+    transform: &Transform,
+    scratch: &mut [f64; 1024],
     adapts: bool,
     played: &Played,
     shadow_error: &[f32; 256],
@@ -141,6 +145,7 @@ fn update(
 {
     adapt_shadow(
         transform,
+        scratch,
         adapts,
         &played.ring,
         played.far_power,
@@ -156,7 +161,8 @@ fn update(
 // Steps 7, 8 and 9. How many samples of the suppressor's inverse went over.
 #[tactic(auto, unfolding(crate::specs::Groups::delivered))]
 fn deliver(
-    transform: &mut Transform,
+    transform: &Transform,
+    scratch: &mut [f64; 1024],
     suppresses: bool,
     given: &MicBlock,
     near_energy: f64,
@@ -172,6 +178,7 @@ fn deliver(
     let protect = mic.detector.protect_output;
     let overs = suppress(
         transform,
+        scratch,
         suppresses,
         protect,
         bins,
@@ -195,7 +202,8 @@ fn deliver(
 
 // A microphone on what was heard: steps 2, 3 and 5 to 9.
 pub fn run_mic(
-    transform: &mut Transform,
+    transform: &Transform,
+    scratch: &mut [f64; 1024],
     flagged: bool,
     played: &Played,
     given: &MicBlock,
@@ -215,7 +223,7 @@ pub fn run_mic(
     };
     let near_energy = energy(given.near, given.valid);
     let checked = filter(
-        transform, played, given, mic, &mut heard, block, shadow, output,
+        transform, scratch, played, given, mic, &mut heard, block, shadow, output,
     );
     let compared = judge(
         played,
@@ -230,10 +238,19 @@ pub fn run_mic(
     );
     let sound = !checked.output.diverged;
     let adapts = given.adapt & sound & !checked.shadow.diverged & !compared.rescued;
-    let update_overs = update(transform, adapts, played, &heard.shadow_error, mic, shadow);
+    let update_overs = update(
+        transform,
+        scratch,
+        adapts,
+        played,
+        &heard.shadow_error,
+        mic,
+        shadow,
+    );
     let suppresses = flagged & played.sounded & sound;
     let overs = deliver(
         transform,
+        scratch,
         suppresses,
         given,
         near_energy,

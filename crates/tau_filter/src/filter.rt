@@ -58,7 +58,8 @@ pub struct Checked {
 }
 
 pub fn shadow_estimate(
-    transform: &mut Transform,
+    transform: &Transform,
+    scratch: &mut [f64; 1024],
     ring: &FarRing,
     near: &[f32; 256],
     paths: &mut Paths,
@@ -72,7 +73,7 @@ pub fn shadow_estimate(
     ensures { shadowed_of result paths.new resets.new estimate.new error.new shadow.new ≡ shadowed (ring_in ring.now) near.now paths.old resets.old shadow.old }
 {
     echo(shadow, ring, bins);
-    let overs = transform.later_half(bins, estimate);
+    let overs = transform.later_half(scratch, bins, estimate);
     let diverged = errors(near, estimate, error);
     if diverged {
         diverge_shadow(paths, resets, shadow);
@@ -83,7 +84,8 @@ pub fn shadow_estimate(
 }
 
 pub fn output_estimate(
-    transform: &mut Transform,
+    transform: &Transform,
+    scratch: &mut [f64; 1024],
     ring: &FarRing,
     near: &[f32; 256],
     paths: &mut Paths,
@@ -99,7 +101,7 @@ pub fn output_estimate(
 {
     let mut estimate = [0.0f32; 256];
     echo(output, ring, bins);
-    let overs = transform.later_half(bins, &mut estimate);
+    let overs = transform.later_half(scratch, bins, &mut estimate);
     let diverged = errors(near, &estimate, error);
     if diverged {
         diverge(paths, suppressor, resets, shadow, output);

@@ -11,7 +11,7 @@ use tau_spectra::transform::Transform;
 use tau_state::report::Told;
 use tau_state::state::TauCanceller;
 
-// The transform, with its table and its scratch, is made once and lent to every step of the block.
+// The transform and its scratch are made once and lent to every step of the block.
 #[tactic(auto, unfolding(tau_block::specs::Block::run_block))]
 pub fn run_block(
     state: &mut TauCanceller,
@@ -34,10 +34,12 @@ pub fn run_block(
     ensures head_in_ring { state.new.far.head < state.new.partitions }
     ensures carries_stay { (state.new.carried ≡ state.old.carried) × (state.new.near_carry ≡ state.old.near_carry) × (state.new.far_carry ≡ state.old.far_carry) }
 {
-    let mut transform = Transform::new();
+    let transform = Transform::new();
+    let mut scratch = [0.0f64; 1024];
     let mut far_power = [0.0f64; 257];
     let active = hear(
-        &mut transform,
+        &transform,
+        &mut scratch,
         state.partitions,
         &mut state.far,
         far,
@@ -57,7 +59,8 @@ pub fn run_block(
         active,
     };
     run_mic(
-        &mut transform,
+        &transform,
+        &mut scratch,
         state.suppress,
         &played,
         given,

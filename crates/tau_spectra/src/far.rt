@@ -39,7 +39,8 @@ fn driving(peak: f64, energy: f64) -> bool
 
 // The spectrum of the window, in a slot of the ring.
 fn store(
-    transform: &mut Transform,
+    transform: &Transform,
+    scratch: &mut [f64; 1024],
     spectra: &mut [f64],
     slot: usize,
     partitions: usize,
@@ -52,12 +53,13 @@ fn store(
 {
     let start = 514 * slot;
     let end = start + 514;
-    transform.spectrum(window, &mut spectra[start..end]);
+    transform.spectrum(scratch, window, &mut spectra[start..end]);
 }
 
 // Both steps. Whether the far end drives this block.
 pub fn hear(
-    transform: &mut Transform,
+    transform: &Transform,
+    scratch: &mut [f64; 1024],
     partitions: usize,
     far: &mut Far,
     block: &[f32; 256],
@@ -74,7 +76,7 @@ pub fn hear(
 {
     slide(&mut far.window, block);
     let head = next_slot(partitions, far.head);
-    store(transform, spectra, head, partitions, &far.window);
+    store(transform, scratch, spectra, head, partitions, &far.window);
     keep(spectra, powers, head, partitions);
     far_power_of(powers, partitions, far_power);
     let energy = energy(block, 256);

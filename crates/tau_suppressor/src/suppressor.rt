@@ -111,11 +111,10 @@ pub(crate) fn shape(g: &[f64; 257], s: &mut [f64])
     }
 }
 
-// How many samples of its inverse went over, 0 where it does not run. A call of its own, so that its arrays take no stack while another step
-// runs.
-#[inline(never)]
+// How many samples of its inverse went over, 0 where it does not run.
 pub fn suppress(
-    transform: &mut Transform,
+    transform: &Transform,
+    scratch: &mut [f64; 1024],
     on: bool,
     protect: bool,
     estimate: &[f64; 514],
@@ -127,7 +126,7 @@ pub fn suppress(
     slide(&mut suppressor.error_window, block);
     if on {
         let mut bins = [0.0f64; 514];
-        transform.spectrum(&suppressor.error_window, &mut bins);
+        transform.spectrum(scratch, &suppressor.error_window, &mut bins);
         bin_powers(estimate, &mut suppressor.echo_power);
         bin_powers(&bins, &mut suppressor.error_power);
         gains(
@@ -137,7 +136,7 @@ pub fn suppress(
             &mut suppressor.gain,
         );
         shape(&suppressor.gain, &mut bins);
-        return transform.later_half(&bins, block);
+        return transform.later_half(scratch, &bins, block);
     }
     0
 }

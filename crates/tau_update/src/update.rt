@@ -69,14 +69,13 @@ fn gradient(x: &[f64], e: &[f64; 514], rates: &[f64; 257], g: &mut [f64])
 }
 
 // The lags beyond one block are the wrap-around and no taps: they are zeroed. How many of all lags went over.
-#[inline(never)]
-fn constrain(transform: &mut Transform, g: &mut [f64; 514]) -> u32
+fn constrain(transform: &Transform, scratch: &mut [f64; 1024], g: &mut [f64; 514]) -> u32
     ensures g_after { g.new ≡ constrained g.old }
     ensures overs { result ≡ overs_of g.old }
 {
     let mut lags = [0.0f32; 512];
-    let overs = transform.first_half(g, &mut lags[..256]);
-    transform.spectrum(&lags, g);
+    let overs = transform.first_half(scratch, g, &mut lags[..256]);
+    transform.spectrum(scratch, &lags, g);
     overs
 }
 
@@ -112,7 +111,8 @@ struct Learned {
 
 // All weights are written before the verdict on them.
 fn learn(
-    transform: &mut Transform,
+    transform: &Transform,
+    scratch: &mut [f64; 1024],
     ring: &FarRing,
     e: &[f64; 514],
     rates: &[f64; 257],
@@ -126,7 +126,7 @@ fn learn(
     let mut overs = 0u32;
     for p in 0..ring.partitions {
         gradient(ring.met_by(p), e, rates, &mut g);
-        overs += constrain(transform, &mut g);
+        overs += constrain(transform, scratch, &mut g);
         let start = 514 * p;
         let end = start + 514;
         let fine = take_step(&mut shadow[start..end], &g);
@@ -136,20 +136,23 @@ fn learn(
 }
 
 // The error behind 256 zeros.
-#[inline(never)]
-fn error_spectrum(transform: &mut Transform, error: &[f32; 256], bins: &mut [f64; 514])
+fn error_spectrum(
+    transform: &Transform,
+    scratch: &mut [f64; 1024],
+    error: &[f32; 256],
+    bins: &mut [f64; 514],
+)
     ensures { bins.new ≡ spectrum_of (framed error.now) }
 {
     let mut framed = [0.0f32; 512];
     slide(&mut framed, error);
-    transform.spectrum(&framed, bins);
+    transform.spectrum(scratch, &framed, bins);
 }
 
-// How many lags of all partitions went over, 0 where the shadow is not updated. A call of its own, so that its arrays take no stack while
-// another step runs; and so are the two above that have an array each.
-#[inline(never)]
+// How many lags of all partitions went over, 0 where the shadow is not updated.
 pub fn adapt_shadow(
-    transform: &mut Transform,
+    transform: &Transform,
+    scratch: &mut [f64; 1024],
     on: bool,
     ring: &FarRing,
     far_power: &[f64; 257],
@@ -168,11 +171,11 @@ pub fn adapt_shadow(
     }
     let mut e = [0.0f64; 514];
     let mut steps = [0.0f64; 257];
-    error_spectrum(transform, error, &mut e);
+    error_spectrum(transform, scratch, error, &mut e);
     // by the means as they were, and then the means with this block's powers
     rates(scale, means, far_power, &mut steps);
     new_means(far_power, means);
-    let learned = learn(transform, ring, &e, &steps, shadow);
+    let learned = learn(transform, scratch, ring, &e, &steps, shadow);
     if learned.finite {
         return learned.overs;
     }
