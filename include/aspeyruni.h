@@ -13,7 +13,7 @@
  * - A bool's byte is 0 or 1, also in a state that was read from a file.
  * - Threads. An engine is its state and its lent buffers, and the library has no other memory. So calls of different engines may run at
  *   once; two calls on one engine may not.
- * - Stack. A call of Tau takes up to 87,800 bytes (measured on x86-64), of which 15 KB are the state that goes in; any other call takes up
+ * - Stack. A call of Tau takes up to 78,500 bytes (measured on x86-64), of which 15 KB are the state that goes in; any other call takes up
  *   to 13 KB. A thread needs 96 KB to spare for Tau, and 16 KB for the rest.
  *
  * Samples: `near_end` is what the microphone hears, `far_end` what the loudspeaker plays at the same time; the same places of both are a
