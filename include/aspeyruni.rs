@@ -11,8 +11,8 @@
 //! What a caller has to see to, since neither the compiler nor a refusal tells of it:
 //! - A state goes only with its own lent buffers, all of them, as its last call left them. Others of the right length are taken for them,
 //!   and a state is `Copy`: an older copy is accepted with newer buffers.
-//! - Stack. For Tau a thread needs 96 KB to spare, and 160 KB in a build that is not optimised (80 and 140 were measured on x86-64, and
-//!   with `process_on` 62 and 77); for the other calls it needs 16 KB.
+//! - Stack. For Tau a thread needs 96 KB to spare, and 176 KB in a build that is not optimised (92,984 and 165,992 bytes were measured on
+//!   x86-64, and with `process_on` 78,392 and 93,240); for the other calls it needs 16 KB.
 //!
 //! An engine is its state and its lent buffers, and the library has no other memory: calls of different engines may run at once.
 //!
