@@ -1,3 +1,2 @@
 pub mod Waits
-pub mod Calls
 pub mod Pieces

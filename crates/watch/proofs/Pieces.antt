@@ -1,7 +1,7 @@
 -- The loop over the pieces: what is left to do from where it is comes to the same as all from the start. Assumes nothing.
 --     Going start s w rest     so it is at w, with `rest` of the bytes s not done yet
 --     begun, next, done        at the start, after a piece, and with all bytes done
-use Rattle.std.proofs.Common.{◌≡◌, refl, sym, ap, ◌∙◌, arith, List, ℕ, zero, suc, ◌+◌, ◌≤◌, ◌<◌, le_refl, eq-eqb, ne_eqb, length, take, drop, length-drop}
+use Rattle.std.proofs.Common.{◌≡◌, refl, ap, ◌∙◌, arith, List, ℕ, zero, suc, ◌≤◌, ◌<◌, le_refl, eq-eqb, ne_eqb, length, take, drop, length-drop}
 use Rattle.laws.specs.Choice.{pick_yes, pick_no}
 use Rattle.watch.specs.Watched.{Watched, fed_by, piece_of, pieces_of}
 

@@ -1,14 +1,19 @@
 -- TauCanceller watched: the engine, where the run is and the counts, call by call. Definitions only.
+--     lent_at, lent_begun      of a state, a course, four lent buffers and counts
 --     begun_of                 before the first pair
 --     fed_by w s               after a call with the pairs of s
 --     flushed_by w             after a flush
 --     reset_by e c             after a reset
 --     pieces_of n w s          after the pairs of s in n pieces at most, each of which fills one block at most
-use Rattle.std.specs.Prelude.{true, List, ℕ, zero, suc, ◌-◌, ◌*◌, min, eqb, Float, length, take, drop}
+--     Finished c counts s t    of an output with s written, t is what is written once the run is told to its end
+use Rattle.std.specs.Prelude.{true, List, ◌++◌, ℕ, zero, suc, ◌-◌, ◌*◌, min, eqb, Float, Option, length, take, drop}
+use Rattle.std.specs.Io.KnownBytes.{Appends}
 use Rattle.laws.specs.Choice.{pick}
 use Rattle.reasons.specs.declared.course.Course.{Course}
 use Rattle.reasons.specs.Course.{start_of, closed_of}
-use Rattle.reasons.specs.Note.{course_after, counts_after}
+use Rattle.reasons.specs.Note.{Stretch, course_after, counts_after}
+use Rattle.reasons.specs.Tally.{Summary}
+use Rattle.tau_state.specs.declared.state.TauCanceller.{TauCanceller}
 use Rattle.tau_frame.specs.Pairs.{Engine}
 use Rattle.tau.specs.Calls.{create_of, reset_of}
 use Rattle.tau_streams.specs.Stream.{begun_by}
@@ -25,6 +30,15 @@ pub record Watched : Type 0 where
   pub engine : Engine
   pub course : Course
   pub counts : List ℕ
+
+abbrev pub lent_engine : TauCanceller → List Float → List Float → List Float → List Float → Engine
+lent_engine s shadow output spectra powers = record { state = s; shadow = shadow; output = output; spectra = spectra; powers = powers }
+
+abbrev pub lent_begun : TauCanceller → Course → List Float → List Float → List Float → List Float → Begun
+lent_begun s c shadow output spectra powers = record { engine = lent_engine s shadow output spectra powers; course = c }
+
+abbrev pub lent_at : TauCanceller → Course → List Float → List Float → List Float → List Float → List ℕ → Watched
+lent_at s c shadow output spectra powers counts = record { engine = lent_engine s shadow output spectra powers; course = c; counts = counts }
 
 abbrev pub begun_of : List Float → List Float → List Float → List Float → Begun
 begun_of shadow output spectra powers = record { engine = begun_by (create_of 4 true shadow output spectra powers); course = start_of }
@@ -53,3 +67,11 @@ pieces_of zero w s = w
 pieces_of (suc n) w s =
     let m = piece_of w.engine.state.carried (length s) in
     pick (eqb (length s) 0) w (pieces_of n (fed_by w (take m s)) (drop m s))
+
+-- the last stretch, where it has blocks, and the summary
+pub record Finished (c : Course) (counts : List ℕ) (s t : Option (List ℕ)) : Type 0 where
+  pub stretch : List ℕ
+  pub is-stretch : Stretch c stretch
+  pub summary : List ℕ
+  pub is-summary : Summary c.blocks counts summary
+  pub written : Appends s t (stretch ++ summary)
