@@ -1,6 +1,6 @@
 // `ComplexFft` for 256 points, in place over 512 numbers: the swap pass, eight stages of butterflies, and for the inverse 1/256.
 // The functions that take a twiddle table are right for any table: their meaning is stated over it.
-ghost use Rattle.std.specs.Prelude.{◌≡◌, ◌+◌, ◌*◌, ◌≤◌, ◌<◌};
+ghost use Rattle.std.specs.Prelude.{◌≡◌, true, ◌+◌, ◌*◌, ◌≤◌, ◌<◌};
 ghost use Rattle.refusal.specs.Refusal.{number_in};
 ghost use Rattle.complex_fft.specs.Calls.{complex_of};
 ghost use Rattle.complex_fft.specs.ComplexFft.{swap_at, permuted, butterfly_at, twiddle_of, block_at, stage_at, stages, scaled, run_of};
@@ -104,13 +104,27 @@ fn stage(s: &mut [f64; 512], table: &[f64; 514], half: usize, stride: usize, inv
     }
 }
 
+// A stage of the inverse, by a call: where the compiler sees that a span is a power of two it takes the inverse's butterflies one by one,
+// and not two at once.
+#[inline(never)]
+fn inverse_stage(s: &mut [f64; 512], table: &[f64; 514], half: usize, stride: usize)
+    requires { half * stride ≡ 128 }
+    ensures { s.new ≡ stage_at table.now true half stride s.old }
+{
+    stage(s, table, half, stride, true);
+}
+
 // The stages, the span doubling from 2 up to 256.
 #[tactic(auto, using(crate::proofs::Spans::halves, laws::specs::Loops::loops), unfolding(crate::specs::ComplexFft::stages))]
 fn all_stages(s: &mut [f64; 512], table: &[f64; 514], inverse: bool)
     ensures { s.new ≡ stages table.now inverse s.old }
 {
     for k in 0..8u32 {
-        stage(s, table, 1 << k, 128 >> k, inverse);
+        if inverse {
+            inverse_stage(s, table, 1 << k, 128 >> k);
+        } else {
+            stage(s, table, 1 << k, 128 >> k, false);
+        }
     }
 }
 
