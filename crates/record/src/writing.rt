@@ -41,7 +41,7 @@ pub fn write(kind: u32, payload: &[u8], out: &mut [u8]) -> Result<usize, Refusal
     write_record(Kind::try_from(kind)?, payload, out)
 }
 
-// A loop: for std's copy_from_slice the host library would need C's memmove.
+// A loop: for std's copy_from_slice the host library would need C's memmove, and a header would be made beside its place.
 fn put(bytes: &[u8], out: &mut [u8])
     requires { length bytes.now ≡ length out.old }
     ensures { out.new ≡ bytes.now }
@@ -60,7 +60,7 @@ pub fn write_record(kind: Kind, payload: &[u8], out: &mut [u8]) -> Result<usize,
     if out.len() < size {
         return Err(Refusal::NoRoom);
     }
-    out[..6].copy_from_slice(&header.to_bytes());
+    put(&header.to_bytes(), &mut out[..6]);
     put(payload, &mut out[6..size]);
     Ok(size)
 }
